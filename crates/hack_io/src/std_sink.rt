@@ -1,0 +1,40 @@
+// A sink over a writer of std.
+
+use crate::{Sink, WriteFault};
+use std::io::Write;
+
+/// A writer as a sink, as of standard output. It tells what the writer tells, and of standard output that is nothing.
+///
+/// Each error of the writer is a fault, and so is a write that takes nothing of bytes that are left.
+#[derive(Drop)]
+pub struct StdSink<W: Write> {
+    writer: W,
+    faults: u64,
+}
+
+impl<W: Write> StdSink<W> {
+    /// A sink that appends to what the writer holds.
+    pub fn new(writer: W) -> Self {
+        StdSink { writer, faults: 0 }
+    }
+}
+
+impl<W: Write> Sink for StdSink<W> {
+    ghost written = { λ sink. W.contents sink.writer };
+
+    ghost faults = { λ sink. sink.faults };
+
+    fn push(&mut self, piece: &[u8]) -> Result<(), WriteFault> {
+        let mut rest = piece;
+        while !rest.is_empty() {
+            match self.writer.write(rest) {
+                Ok(count) if count > 0 => rest = &rest[count..],
+                _ => {
+                    self.faults = self.faults.saturating_add(1);
+                    return Err(WriteFault);
+                }
+            }
+        }
+        Ok(())
+    }
+}
