@@ -1,4 +1,4 @@
--- The script: its commands, and how each is spelled in bytes (docs/script.md, Commands).
+-- The commands of a script, and how each is spelled in bytes (docs/script.md, Commands).
 use Rattle.std.specs.Prelude.{◌≡◌, ◌⊎◌, ◌≤◌, ◌^◌, ℕ, List, [], ◌∷◌, ◌++◌, length, codes}
 use Rattle.std.specs.List.{flat_map, AllByRecursion}
 use Rattle.std.specs.Fmt.{decimal}
@@ -36,8 +36,3 @@ space = 32 ∷ []
 abbrev pub spelling : Command → List ℕ
 spelling (File name body) = codes "file " ++ name ++ space ++ decimal (length body) ++ newline ++ body ++ newline
 spelling Check = codes "check" ++ newline
-
--- the bytes are those of the commands, one after another and nothing else
-pub record IsScript (bytes : List ℕ) (commands : List Command) : Type 0 where
-  pub limits : AllByRecursion IsWithinLimits commands
-  pub spelled : bytes ≡ flat_map spelling commands

@@ -3,7 +3,7 @@ use Rattle.std.specs.Prelude.{◌+◌, ◌-◌, ◌^◌, ℕ, List, min, drop}
 use Rattle.hack_io.specs.declared.memory_source.MemorySource.{MemorySource}
 use Rattle.hack_io.specs.declared.memory_sink.MemorySink.{MemorySink}
 
--- the number of the call after so many; it stands still at the end of its type
+-- the number of the call after so many; it stays at 2^64 - 1
 abbrev pub next_call : ℕ → ℕ
 next_call calls = min (calls + 1) (2 ^ 64 - 1)
 

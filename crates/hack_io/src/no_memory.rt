@@ -1,10 +1,10 @@
-// Want of memory, as an answer of its own.
+// The answer where memory ran out.
 
 use std::alloc::{AllocError, AllocFailed};
 use std::error::Error;
 use std::fmt;
 
-/// Memory ran out. It is never merged with another answer, and nothing else is told by it.
+/// Memory ran out. It is an answer of its own, and says nothing of what else might be wrong.
 #[derive(Clone, Copy, Debug, PartialEq, Eq)]
 pub struct NoMemory;
 

@@ -13,8 +13,14 @@ pub struct StdSink<W: Write> {
 }
 
 impl<W: Write> StdSink<W> {
+    ghost use Rattle.std.specs.Prelude.{◌≡◌};
+    ghost use Rattle.hack_io.specs.Std.{writer_of, writer_faults};
+
     /// A sink that appends to what the writer holds.
-    pub fn new(writer: W) -> Self {
+    pub fn new(writer: W) -> Self
+        ensures writer { writer_of result ≡ writer }
+        ensures faults { writer_faults result ≡ 0 }
+    {
         StdSink { writer, faults: 0 }
     }
 }

@@ -13,8 +13,14 @@ pub struct StdSource<R: Read> {
 }
 
 impl<R: Read> StdSource<R> {
+    ghost use Rattle.std.specs.Prelude.{◌≡◌};
+    ghost use Rattle.hack_io.specs.Std.{reader_of, reader_faults};
+
     /// A source of what the reader gives from here on.
-    pub fn new(reader: R) -> Self {
+    pub fn new(reader: R) -> Self
+        ensures reader { reader_of result ≡ reader }
+        ensures faults { reader_faults result ≡ 0 }
+    {
         StdSource { reader, faults: 0 }
     }
 }

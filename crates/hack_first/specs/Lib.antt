@@ -1,0 +1,5 @@
+pub mod Keywords
+pub mod TextOrder
+pub mod Functions
+pub mod FirstUnits
+pub mod Reading

@@ -1,0 +1,10 @@
+//! The test for the first scripts' bodies: lists of functions without parameters that return a literal or a call.
+#![tactic(auto)]
+
+mod keywords;
+mod lexeme;
+mod parse;
+mod unit;
+
+pub use parse::first_units;
+pub use unit::{FirstUnit, Primitive, Returned};

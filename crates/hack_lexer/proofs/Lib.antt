@@ -1,0 +1,4 @@
+pub mod Ints
+pub mod Forms
+pub mod Tokens
+pub mod Cuts
