@@ -1,0 +1,15 @@
+pub mod Splits
+pub mod Numbers
+pub mod Commands
+pub mod Scripts
+pub mod StepLemmas
+pub mod Tables
+pub mod Changes
+pub mod Fresh
+pub mod Puts
+pub mod Rising
+pub mod Reports
+pub mod Lines
+pub mod Filling
+pub mod Replying
+pub mod Outcomes
