@@ -1,5 +1,6 @@
--- First units as plain data, without where they lie in memory. A first unit is a function with no attributes, no type
--- parameters and no parameters, whose body is one return (docs/language.md, First units).
+-- First units as plain data, without where they lie in memory. A first unit is a function whose result is int or string
+-- and whose body is one return of a literal or a call; it has no attributes and no parameters of either sort
+-- (docs/language.md, First units).
 use Rattle.std.specs.Prelude.{ℕ, List, codes}
 use Rattle.hack_tree.specs.declared.place.Place.{Place}
 use Rattle.hack_first.specs.declared.unit.Primitive.{Primitive}

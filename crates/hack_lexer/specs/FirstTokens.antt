@@ -1,5 +1,5 @@
--- The tokens of a first script's bodies (docs/language.md, Tokens): which cut of the bytes into blanks and tokens is
--- the one that counts. Every token is the longest at its place.
+-- The tokens of a first script's texts (docs/language.md, Tokens): the cut of the bytes into blanks and tokens in which
+-- every token is the longest at its place.
 use Rattle.std.specs.Prelude.{◌≡◌, ◌≢◌, ◌⊎◌, ◌≤◌, ◌<◌, ◌+◌, ◌-◌, ◌^◌, ℕ, List, [], ◌∷◌, ◌++◌, length, take, drop}
 use Rattle.std.specs.List.{AllByRecursion}
 use Rattle.std.specs.Fmt.{decimal}

@@ -50,7 +50,7 @@ AreFresh-push fs f old fresh none = λ j g e.
     ⊎_elim
     (λ front. ap (λ gs. changed its_result gs g.name (tree.get byte_order old g.name)) (take-append-le j fs (f ∷ []) (omega (arith, front.0))) ∙ fresh j g front.1)
     (λ last. ap (λ gs. changed its_result gs g.name (tree.get byte_order old g.name)) (ap (λ n. take n (fs ++ f ∷ [])) last.0 ∙ take-append_seam fs (f ∷ []))
-        ∙ ap (λ (h : Function). changed its_result fs h.name (tree.get byte_order old h.name)) (sym last.1) ∙ none)
+    ∙ ap (λ (h : Function). changed its_result fs h.name (tree.get byte_order old h.name)) (sym last.1) ∙ none)
     (slice_get-push fs f j g e)
 
 -- what stands at the next unit's name in the table so far
@@ -71,8 +71,7 @@ pub IsTaken-at : (units : List FirstUnit) (i : ℕ) (d : FirstUnit) (old : tree.
     → changed its_result (functions_of (take i units)) (function_of (get_or units i d)).name (tree.get byte_order old (function_of (get_or units i d)).name) ≡ Some result
     → IsTaken (functions_of units) old
 IsTaken-at units i d old result inside some =
-    let f = function_of (get_or units i d) in
-    (
+    let f = function_of (get_or units i d) in (
       i,
       f,
       result,

@@ -117,10 +117,9 @@ body_of-parts len bytes body rest e =
     let inside : len < length bytes = lt_from len (length bytes) tests.0 in
     let is_newline : get_or bytes len 0 ≡ 10 = eq_from (get_or bytes len 0) 10 tests.1 in
     let bodies : take len bytes ≡ body = ap (λ (p : List ℕ × List ℕ). p.0) parts.1 in
-    let rests : drop (len + 1) bytes ≡ rest = ap (λ (p : List ℕ × List ℕ). p.1) parts.1 in
-    (
+    let rests : drop (len + 1) bytes ≡ rest = ap (λ (p : List ℕ × List ℕ). p.1) parts.1 in (
       sym (take-append-drop len bytes) ∙ ap (λ xs. take len bytes ++ xs) (drop_more bytes len 0 inside)
-      ∙ ap (λ b. take len bytes ++ b ∷ drop (len + 1) bytes) is_newline ∙ (λ i. bodies i ++ 10 ∷ rests i),
+          ∙ ap (λ b. take len bytes ++ b ∷ drop (len + 1) bytes) is_newline ∙ (λ i. bodies i ++ 10 ∷ rests i),
       sym (ap length bodies) ∙ length-take-le len bytes (omega arith),
     )
 
@@ -177,7 +176,7 @@ read_file-found name body after limits =
     let short : nat_le (length body) 1048576 ≡ true = le_test (length body) 1048576 limits.1 in
     let few : length body < 10 ^ 7 = omega (arith, limits.1) in
     ap (λ o. o >>= λ parts. number parts.1 >>= λ len. body_of len rest >>= λ found. cond (is_file_name parts.0 && nat_le len 1048576) (Some (File parts.0 found.0, found.1)) None)
-      (split_first-found 32 name ds (no_space name limits.0.each))
+    (split_first-found 32 name ds (no_space name limits.0.each))
     ∙ ap (λ o. o >>= λ len. body_of len rest >>= λ found. cond (is_file_name name && nat_le len 1048576) (Some (File name found.0, found.1)) None) (number-decimal (length body) few)
     ∙ ap (λ o. o >>= λ (found : List ℕ × List ℕ). cond (is_file_name name && nat_le (length body) 1048576) (Some (File name found.0, found.1)) None) (body_of-found body after)
     ∙ ap (λ t. cond (t && nat_le (length body) 1048576) (Some (File name body, after)) None) (file_name-test name limits.0)
@@ -233,7 +232,7 @@ read_command-found (File name body) after limits =
     let fits : length body < 2 ^ 64 = omega (arith, limits.1) in
     ap read_command (sym (spelled name (decimal (length body)) body after))
     ∙ ap (λ o. o >>= λ (line : List ℕ × List ℕ). cond (bytes_eq line.0 (codes "check")) (Some (Check, line.1)) (behind (codes "file ") line.0 >>= λ words. read_file words line.1))
-      (split_first-found 10 line rest (file_line name (length body) limits.0.each fits))
+    (split_first-found 10 line rest (file_line name (length body) limits.0.each fits))
     ∙ ap (λ o. o >>= λ words. read_file words rest) (behind-found (codes "file ") words)
     ∙ read_file-found name body after limits
 read_command-found Check after limits = refl

@@ -136,9 +136,9 @@ fresh-distinct fs old fresh i j f g at_i at_j named =
     ⊎_elim
     (λ before. absurd (fresh-apart fs old fresh i j f g at_i at_j before named))
     (λ not_before. ⊎_elim
-        (λ behind. absurd (fresh-apart fs old fresh j i g f at_j at_i behind (sym named)))
-        (λ not_behind. omega arith)
-        (cases_lt j i))
+    (λ behind. absurd (fresh-apart fs old fresh j i g f at_j at_i behind (sym named)))
+    (λ not_behind. omega arith)
+    (cases_lt j i))
     (cases_lt i j)
 
 -- nothing stood at a fresh name
@@ -155,9 +155,9 @@ fresh-set fs old fresh i f at = by (changed its_result fs f.name (tree.get byte_
     by (Some r) e =
         ⊎_elim
         (λ among.
-            let index = fresh-distinct fs old fresh among.index i among.function f among.at at among.named in
-            let twice : Some among.function ≡ Some f = sym among.at ∙ ap (slice_get fs) index ∙ at in
-            let one : among.function ≡ f = cc in
-            e ∙ ap Some (sym among.results ∙ ap (λ (g : Function). g.result) one))
+        let index = fresh-distinct fs old fresh among.index i among.function f among.at at among.named in
+        let twice : Some among.function ≡ Some f = sym among.at ∙ ap (slice_get fs) index ∙ at in
+        let one : among.function ≡ f = cc in
+        e ∙ ap Some (sym among.results ∙ ap (λ (g : Function). g.result) one))
         (λ front. let clash : ◌≡◌ {A = Option Primitive} None (Some r) = sym (fresh-none fs old fresh i f at) ∙ front in absurd cc)
         (changed-found fs f.name (tree.get byte_order old f.name) r e)

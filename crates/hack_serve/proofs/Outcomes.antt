@@ -5,7 +5,7 @@ use Rattle.std.proofs.KnownBytes.{Appends-nil}
 use Rattle.std.proofs.lemmas.List.{drop_at, drop_all}
 use Rattle.std.proofs.lemmas.Bool.{cases_lt}
 use Rattle.hack_serve.specs.FirstScript.{IsFirstScript}
-use Rattle.hack_serve.specs.Outcome.{IsTaken, IsInput, IsRefused, IsAnswered, IsCutShort, IsBroken, Fits, Wrote, AnswersTo, Answers, TakesInput}
+use Rattle.hack_serve.specs.Outcome.{IsTaken, IsInput, IsRefused, IsAnswered, IsCutShort, IsBrokenOff, Fits, Wrote, AnswersTo, Answers, TakesInput}
 use Rattle.hack_serve.specs.declared.status.Status.{Status}
 use Rattle.hack_serve.specs.declared.status.Status.TheVariants.{Done, Usage, ReadFault, WriteFault, NotBuilt, NoMemory}
 
@@ -16,9 +16,9 @@ takes_input (Some left) None input taken = absurd taken.taken
 takes_input (Some left) (Some rest) input taken =
     ⊎_elim
     (λ short.
-        let none : rest ≡ [] = taken.all short in
-        let all : left ≡ input = taken.taken ∙ ap (λ xs. input ++ xs) none ∙ append-nil input in
-        ap Some (none ∙ sym (drop_all 65537 left (omega (arith, ap length all)))))
+    let none : rest ≡ [] = taken.all short in
+    let all : left ≡ input = taken.taken ∙ ap (λ xs. input ++ xs) none ∙ append-nil input in
+    ap Some (none ∙ sym (drop_all 65537 left (omega (arith, ap length all)))))
     (λ full. ap Some (sym (ap (drop 65537) taken.taken ∙ drop_at input rest 65537 (omega (arith, taken.some)))))
     (cases_lt (length input) 65537)
 
@@ -43,9 +43,9 @@ answers_input status (Some left) None bytes before after taken h = absurd taken.
 answers_input status (Some left) (Some rest) bytes before after taken h =
     ⊎_elim
     (λ short.
-        let none : rest ≡ [] = taken.all short in
-        let all : left ≡ bytes = taken.taken ∙ ap (λ xs. bytes ++ xs) none ∙ append-nil bytes in
-        (left, refl, (h.0, h.1, subst (λ input. Fits status input h.0) (sym all) h.2)))
+    let none : rest ≡ [] = taken.all short in
+    let all : left ≡ bytes = taken.taken ∙ ap (λ xs. bytes ++ xs) none ∙ append-nil bytes in
+    (left, refl, (h.0, h.1, subst (λ input. Fits status input h.0) (sym all) h.2)))
     (λ full. (left, refl, (h.0, h.1, fits_long status bytes left h.0 (omega arith) (omega (arith, ap length taken.taken, length-append bytes rest)) h.2)))
     (cases_lt (length bytes) 65537)
 

@@ -49,8 +49,9 @@ module _ (units : tree.BTreeMap (List ℕ) (Bor (List FirstUnit))) (results : tr
   -- where there was no file of this name, the table as it is
   pub elsewhere_none : tree.get byte_order units file ≡ None → StandsElsewhere results files file
   elsewhere_none none = λ name result. (
-      λ e. let has = (stands.declared name result).0 e in record { has = has; apart = λ is. not_there has.index has.function (subst (λ f. Declares files f has.index has.function) is has.declares) },
-      λ h. (stands.declared name result).1 h.has)
+    λ e. let has = (stands.declared name result).0 e in record { has = has; apart = λ is. not_there has.index has.function (subst (λ f. Declares files f has.index has.function) is has.declares) },
+    λ h. (stands.declared name result).1 h.has,
+  )
     where
       not_there : (i : ℕ) (f : Function) → Declares files file i f → ⊥
       not_there i f d =
@@ -89,7 +90,7 @@ module _ (units : tree.BTreeMap (List ℕ) (Bor (List FirstUnit))) (results : tr
       from name result h =
           let has = h.has in
           let none : HasNone (functions_of before.now) name = λ i f at named.
-              absurd (h.apart (stands.once has.file file has.index i has.function f has.declares (declares_at i f at) (has.named ∙ sym named)).0) in
+          absurd (h.apart (stands.once has.file file has.index i has.function f has.declares (declares_at i f at) (has.named ∙ sym named)).0) in
           gone name ∙ kept_on (functions_of before.now) name (tree.get byte_order results name) none ∙ (stands.declared name result).1 has
 
 -- ---- the new file
@@ -107,18 +108,27 @@ module _ (files : Files) (file body : List ℕ) (fs : List Function) (is_body : 
   declares_cases name i f d =
       ⊎_elim
       (λ is.
-          let twice : Some body ≡ Some d.body = sym (get_next name ∙ ap (λ t. cond t (Some body) (finite.get files name)) is.0) ∙ d.there in
-          let one : body ≡ d.body = cc in
-          inl (is.1, ap (λ gs. slice_get gs i) (is_body.only d.functions (subst (λ b. IsFirstBody b d.functions) (sym one) d.read)) ∙ d.at_index))
-      (λ not. inr (not.1, record {
-          body = d.body; functions = d.functions; read = d.read; at_index = d.at_index;
+      let twice : Some body ≡ Some d.body = sym (get_next name ∙ ap (λ t. cond t (Some body) (finite.get files name)) is.0) ∙ d.there in
+      let one : body ≡ d.body = cc in
+      inl (is.1, ap (λ gs. slice_get gs i) (is_body.only d.functions (subst (λ b. IsFirstBody b d.functions) (sym one) d.read)) ∙ d.at_index))
+      (λ not. inr (
+        not.1,
+        record {
+          body = d.body;
+          functions = d.functions;
+          read = d.read;
+          at_index = d.at_index;
           there = sym (get_next name ∙ ap (λ t. cond t (Some body) (finite.get files name)) not.0) ∙ d.there;
-        }))
+        },
+      ))
       (same_or_not name file)
 
   declares_new : (i : ℕ) (f : Function) → slice_get fs i ≡ Some f → Declares next file i f
   declares_new i f at = record {
-    body = body; functions = fs; read = is_body.read; at_index = at;
+    body = body;
+    functions = fs;
+    read = is_body.read;
+    at_index = at;
     there = get_next file ∙ ap (λ t. cond t (Some body) (finite.get files file)) (same-refl file);
   }
 
@@ -127,9 +137,12 @@ module _ (files : Files) (file body : List ℕ) (fs : List Function) (is_body : 
       ⊎_elim
       (λ is. absurd (apart is.1))
       (λ not. record {
-          body = d.body; functions = d.functions; read = d.read; at_index = d.at_index;
-          there = get_next name ∙ ap (λ t. cond t (Some body) (finite.get files name)) not.0 ∙ d.there;
-        })
+        body = d.body;
+        functions = d.functions;
+        read = d.read;
+        at_index = d.at_index;
+        there = get_next name ∙ ap (λ t. cond t (Some body) (finite.get files name)) not.0 ∙ d.there;
+      })
       (same_or_not name file)
 
   module _ (old new : tree.BTreeMap (List ℕ) Primitive) (once : DeclaresOnce files) (elsewhere : StandsElsewhere old files file) where
@@ -162,19 +175,19 @@ module _ (files : Files) (file body : List ℕ) (fs : List Function) (is_body : 
             ⊎_elim
             (λ among. record { file = file; index = among.index; function = among.function; declares = declares_new among.index among.function among.at; named = among.named; results = among.results })
             (λ front.
-                let h = (elsewhere name result).0 front in
-                record { file = h.has.file; index = h.has.index; function = h.has.function; declares = declares_old h.has.file h.has.index h.has.function h.apart h.has.declares; named = h.has.named; results = h.has.results })
+            let h = (elsewhere name result).0 front in
+            record { file = h.has.file; index = h.has.index; function = h.has.function; declares = declares_old h.has.file h.has.index h.has.function h.apart h.has.declares; named = h.has.named; results = h.has.results })
             (changed-found fs name (tree.get byte_order old name) result (sym (set name) ∙ e))
 
         from : (name : List ℕ) (result : Primitive) → HasResult next name result → tree.get byte_order new name ≡ Some result
         from name result h =
             ⊎_elim
             (λ is.
-                set name ∙ ap (λ n. changed its_result fs n (tree.get byte_order old n)) (sym h.named)
-                ∙ fresh-set fs old fresh h.index h.function is.1 ∙ ap Some h.results)
+            set name ∙ ap (λ n. changed its_result fs n (tree.get byte_order old n)) (sym h.named)
+            ∙ fresh-set fs old fresh h.index h.function is.1 ∙ ap Some h.results)
             (λ not.
-                let there : tree.get byte_order old name ≡ Some result = ap (tree.get byte_order old) (sym h.named) ∙ stood h.file h.index h.function not.0 not.1 ∙ ap Some h.results in
-                unset name result there (not_among h.file h.index h.function name not.0 not.1 h.named))
+            let there : tree.get byte_order old name ≡ Some result = ap (tree.get byte_order old) (sym h.named) ∙ stood h.file h.index h.function not.0 not.1 ∙ ap Some h.results in
+            unset name result there (not_among h.file h.index h.function name not.0 not.1 h.named))
             (declares_cases h.file h.index h.function h.declares)
           where
             not_among : (other : List ℕ) (j : ℕ) (g : Function) (name : List ℕ) → other ≢ file → Declares files other j g → g.name ≡ name → HasNone fs name
@@ -201,14 +214,14 @@ module _ (files : Files) (file body : List ℕ) (fs : List Function) (is_body : 
         let r = taken.2 in
         ⊎_elim
         (λ among.
-            let before : among.index < i = within among.index i among.function among.at in
-            let at : slice_get fs among.index ≡ Some among.function = sym (slice_get-take fs among.index i before) ∙ among.at in
-            let clash = (once_then file file among.index i among.function f (declares_new among.index among.function at) (declares_new i f taken.3) among.named).1 in
-            omega arith)
+        let before : among.index < i = within among.index i among.function among.at in
+        let at : slice_get fs among.index ≡ Some among.function = sym (slice_get-take fs among.index i before) ∙ among.at in
+        let clash = (once_then file file among.index i among.function f (declares_new among.index among.function at) (declares_new i f taken.3) among.named).1 in
+        omega arith)
         (λ front.
-            let h = (elsewhere f.name r).0 front in
-            let clash = (once_then h.has.file file h.has.index i h.has.function f (declares_old h.has.file h.has.index h.has.function h.apart h.has.declares) (declares_new i f taken.3) h.has.named).0 in
-            h.apart clash)
+        let h = (elsewhere f.name r).0 front in
+        let clash = (once_then h.has.file file h.has.index i h.has.function f (declares_old h.has.file h.has.index h.has.function h.apart h.has.declares) (declares_new i f taken.3) h.has.named).0 in
+        h.apart clash)
         (changed-found (take i fs) f.name (tree.get byte_order old f.name) r taken.4)
       where
         within : (j i : ℕ) (g : Function) → slice_get (take i fs) j ≡ Some g → j < i
@@ -223,11 +236,11 @@ pub stands_next : (units new_units : tree.BTreeMap (List ℕ) (Bor (List FirstUn
 stands_next units new_units results old new files file body us stands is_body inserted elsewhere fresh set = record {
   kept = λ name. ⊎_elim
       (λ is. kept_as (Some body) (Some us) name is_body
-          (get_next files file body (functions_of us.now) is_body name ∙ ap (λ t. cond t (Some body) (finite.get files name)) (same_from name file (sym is.1)))
-          (inserted name ∙ ap (λ t. cond t (Some us) (tree.get byte_order units name)) is.0))
+      (get_next files file body (functions_of us.now) is_body name ∙ ap (λ t. cond t (Some body) (finite.get files name)) (same_from name file (sym is.1)))
+      (inserted name ∙ ap (λ t. cond t (Some us) (tree.get byte_order units name)) is.0))
       (λ not. kept_as (finite.get files name) (tree.get byte_order units name) name (stands.kept name)
-          (get_next files file body (functions_of us.now) is_body name ∙ ap (λ t. cond t (Some body) (finite.get files name)) ((eq_by_cmp_equiv nat_list_cmp_total).symm name file ∙ not.0))
-          (inserted name ∙ ap (λ t. cond t (Some us) (tree.get byte_order units name)) not.0))
+      (get_next files file body (functions_of us.now) is_body name ∙ ap (λ t. cond t (Some body) (finite.get files name)) ((eq_by_cmp_equiv nat_list_cmp_total).symm name file ∙ not.0))
+      (inserted name ∙ ap (λ t. cond t (Some us) (tree.get byte_order units name)) not.0))
       (same_or_not file name);
   declared = declared_next files file body (functions_of us.now) is_body old new stands.once elsewhere fresh set;
   once = once_next files file body (functions_of us.now) is_body old new stands.once elsewhere fresh;

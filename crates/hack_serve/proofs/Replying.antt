@@ -46,7 +46,7 @@ pub put_reply : {E : Type 0} (r : Result (Vec ℕ Global) E) (once : Bool) (s : 
     → ((files : Files) (body : List ℕ) → S files → IsBody body (functions_of slice) → MatchBool once (T (after files (Put name.now body))) (DeclaresOnce (after files (Put name.now body)) → ⊥))
     → IfOk r (λ text. text.items ≡ reply_text diag_line (Edited (edits + 1)))
     → IfOk r (λ text. (files : Files) (command : script.Command) → S files → IsStep command s → DeclaresOnce (files_after files command)
-        → IsReplied files edits checks command text.items × IsAfter edits checks command (edits + 1) checks × T (files_after files command))
+    → IsReplied files edits checks command text.items × IsAfter edits checks command (edits + 1) checks × T (files_after files command))
 put_reply (Err e) once s name units slice edits checks S T s_is slice_is put text_is = tt
 put_reply (Ok text) once s name units slice edits checks S T s_is slice_is put text_is = λ files command stands is_step declared. by files command stands (subst (IsStep command) s_is is_step) declared
   where
@@ -54,7 +54,7 @@ put_reply (Ok text) once s name units slice edits checks S T s_is slice_is put t
         → IsReplied files edits checks command text.items × IsAfter edits checks command (edits + 1) checks × T (files_after files command)
     by files (script.File file body) stands is_step declared =
         let next = subst (λ k. MatchBool once (T (after files (Put k body))) (DeclaresOnce (after files (Put k body)) → ⊥)) is_step.0
-            (put files body stands (subst (λ us. IsBody body (functions_of us)) (sym slice_is) is_step.1)) in
+        (put files body stands (subst (λ us. IsBody body (functions_of us)) (sym slice_is) is_step.1)) in
         ((Edited (edits + 1), refl, text_is), (refl, refl), surely once _ _ next declared)
     by files script.Check stands is_step declared = absurd is_step
 
@@ -62,7 +62,7 @@ put_reply (Ok text) once s name units slice edits checks S T s_is slice_is put t
 pub check_reply : {E : Type 0} (r : Result (Vec ℕ Global) E) (report : List FileDiag) (s : Step) (edits checks : ℕ) (S : Files → Type 0) → s ≡ step.Report
     → ((files : Files) → S files → IsFirstReport files report) → IfOk r (λ text. text.items ≡ reply_text diag_line (Reported (checks + 1) report))
     → IfOk r (λ text. (files : Files) (command : script.Command) → S files → IsStep command s → DeclaresOnce (files_after files command)
-        → IsReplied files edits checks command text.items × IsAfter edits checks command edits (checks + 1) × S (files_after files command))
+    → IsReplied files edits checks command text.items × IsAfter edits checks command edits (checks + 1) × S (files_after files command))
 check_reply (Err e) report s edits checks S s_is is_report text_is = tt
 check_reply (Ok text) report s edits checks S s_is is_report text_is = λ files command stands is_step declared. by files command stands (subst (IsStep command) s_is is_step)
   where
@@ -159,22 +159,29 @@ pub record HasRun (S : Files → Type 0) (edits checks : ℕ) (commands : List s
 pub has_run-start : (S : Files → Type 0) (edits checks : ℕ) (commands : List script.Command) (steps : List Step) (known : Option (List ℕ)) → edits ≡ 0 → checks ≡ 0 → AreSteps commands steps → S first_files → DeclaresOnce first_files → NeverTwice first_files commands
     → HasRun S edits checks commands steps known known
 has_run-start S edits checks commands steps known no_edit no_check are stands once_now once = record {
-  front = []; rest = commands; files = first_files; replies = []; out = [];
-  split = refl; left = are; stands = stands; once = (once_now, once);
+  front = [];
+  rest = commands;
+  files = first_files;
+  replies = [];
+  out = [];
+  split = refl;
+  left = are;
+  stands = stands;
+  once = (once_now, once);
   ran = λ later more h. subst (λ n. Replies IsFirstReport first_files n 0 later more) no_edit (subst (λ n. Replies IsFirstReport first_files edits n later more) no_check h);
-  wrote = Appends-nil known; text = refl;
+  wrote = Appends-nil known;
+  text = refl;
 }
 
 -- commands that were run to their end are replied to
 are_replies : (front : List script.Command) (files : Files) (edits checks : ℕ) (replies : List (Reply FileDiag)) (out : List ℕ)
     → ((later : List script.Command) (more : List (Reply FileDiag)) → Replies IsFirstReport files edits checks later more → Replies IsFirstReport first_files 0 0 (front ++ later) (replies ++ more))
     → out ≡ replies_text diag_line replies → AreReplies front out
-are_replies front files edits checks replies out ran text =
-    (
-      replies,
-      subst (λ cs. Replies IsFirstReport first_files 0 0 cs replies) (append-nil front) (subst (Replies IsFirstReport first_files 0 0 (front ++ [])) (append-nil replies) (ran [] [] refl)),
-      text,
-    )
+are_replies front files edits checks replies out ran text = (
+  replies,
+  subst (λ cs. Replies IsFirstReport first_files 0 0 cs replies) (append-nil front) (subst (Replies IsFirstReport first_files 0 0 (front ++ [])) (append-nil replies) (ran [] [] refl)),
+  text,
+)
 
 -- the replies so far are those to the first commands
 pub replies_so_far : (S : Files → Type 0) (edits checks : ℕ) (commands : List script.Command) (steps : List Step) (before now : Option (List ℕ)) (run : HasRun S edits checks commands steps before now) → AreReplies run.front run.out
@@ -242,17 +249,16 @@ module _ (S T : Files → Type 0) (edits checks e c : ℕ) (commands : List scri
 
   -- the first n bytes of the step's reply were written
   pub cut_short : (then : Option (List ℕ)) (n : ℕ) → Appends now then (take n text) → IsStopped status.WriteFault before then commands
-  cut_short then n pushed =
-      (
-        run.front ++ next.0 ∷ [],
-        next.1,
-        run.out ++ take n text,
-        drop n text,
-        split_then,
-        Appends-trans before now then run.out (take n text) run.wrote pushed,
-        subst (AreReplies (run.front ++ next.0 ∷ [])) (ap (λ xs. run.out ++ xs) (sym (take-append-drop n text)) ∙ sym (append_assoc run.out (take n text) (drop n text)))
+  cut_short then n pushed = (
+    run.front ++ next.0 ∷ [],
+    next.1,
+    run.out ++ take n text,
+    drop n text,
+    split_then,
+    Appends-trans before now then run.out (take n text) run.wrote pushed,
+    subst (AreReplies (run.front ++ next.0 ∷ [])) (ap (λ xs. run.out ++ xs) (sym (take-append-drop n text)) ∙ sym (append_assoc run.out (take n text) (drop n text)))
         (are_replies (run.front ++ next.0 ∷ []) (files_after run.files next.0) e c (run.replies ++ given.0.0 ∷ []) (run.out ++ text) ran_then text_then),
-      )
+  )
 
 -- where no step is left, all was written
 pub has_run-end : (S : Files → Type 0) (edits checks : ℕ) (commands : List script.Command) (steps : List Step) (i : ℕ) (before now : Option (List ℕ)) → length steps ≤ i

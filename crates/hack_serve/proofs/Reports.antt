@@ -155,8 +155,8 @@ module _ (units : tree.BTreeMap (List ℕ) (Bor (List FirstUnit))) (results : tr
       ⊎_elim
       (λ is. let found : Some e.1 ≡ Some us = ap (λ t. cond t (Some e.1) (lookup (tree.is_at (byte_order name)) entries)) (sym is.0) ∙ h in (e, (0, omega arith, refl), sym is.1, (let one : e.1 ≡ us = cc in one)))
       (λ not.
-          let later = looked_up entries name us (ap (λ t. cond t (Some e.1) (lookup (tree.is_at (byte_order name)) entries)) (sym not.0) ∙ h) in
-          (later.0, Contains-append_right (e ∷ []) entries later.0 later.1, later.2, later.3))
+      let later = looked_up entries name us (ap (λ t. cond t (Some e.1) (lookup (tree.is_at (byte_order name)) entries)) (sym not.0) ∙ h) in
+      (later.0, Contains-append_right (e ∷ []) entries later.0 later.1, later.2, later.3))
       (same_or_not name e.0)
 
   -- a declaration's function stands among those kept of its file
@@ -185,8 +185,7 @@ module _ (units : tree.BTreeMap (List ℕ) (Bor (List FirstUnit))) (results : tr
       to h =
           let file = in_files units.entries d h in
           let e = file.0 in
-          let one = in_functions e.0 (functions_of e.1.now) d file.2 in
-          (
+          let one = in_functions e.0 (functions_of e.1.now) d file.2 in (
             one.0,
             one.1,
             subst (λ name. Declares files name one.0 one.1) (sym one.3) (kept_declares e.0 e.1 one.0 one.1 (entered e file.1) one.2),
@@ -228,10 +227,9 @@ module _ (units : tree.BTreeMap (List ℕ) (Bor (List FirstUnit))) (results : tr
   goes_before bytes file at x [] in_file there all = tt
   goes_before bytes file at x (y ∷ list) in_file there all =
       let same_file : byte_order x.file y.file ≡ Equal = (λ i. byte_order (in_file i) (all.0.0 i)) ∙ (Equal-is (byte_order file file)).0 (same-refl file) in
-      let later : place_order x.diag.at y.diag.at ≡ Less = (λ i. place_order (there i) (all.0.4 i)) ∙ places_rise bytes at all.0.1 (omega (arith, all.0.2)) (omega (arith, all.0.3)) in
-      (
+      let later : place_order x.diag.at y.diag.at ≡ Less = (λ i. place_order (there i) (all.0.4 i)) ∙ places_rise bytes at all.0.1 (omega (arith, all.0.2)) (omega (arith, all.0.3)) in (
         ap (λ o. ordering_then o (ordering_then (place_order x.diag.at y.diag.at) (ordering_then (nat_cmp x.diag.code y.diag.code) (byte_order x.diag.text y.diag.text)))) same_file
-        ∙ ap (λ o. ordering_then o (ordering_then (nat_cmp x.diag.code y.diag.code) (byte_order x.diag.text y.diag.text))) later,
+            ∙ ap (λ o. ordering_then o (ordering_then (nat_cmp x.diag.code y.diag.code) (byte_order x.diag.text y.diag.text))) later,
         goes_before bytes file at x list in_file there all.1,
       )
 
@@ -242,8 +240,7 @@ module _ (units : tree.BTreeMap (List ℕ) (Bor (List FirstUnit))) (results : tr
   unfolding IsStrictlySortedBy
   one_more bytes file from f fs stand None e later = (sooner bytes file (stand.0 + 1) from (file_findings results file fs) (omega (arith, stand.1)) later.0, later.1)
   one_more bytes file from f fs stand (Some d) e later =
-      let there : d.at ≡ place_of bytes stand.0 = found_at f (type_found results f.value) d e ∙ stand.3 in
-      (
+      let there : d.at ≡ place_of bytes stand.0 = found_at f (type_found results f.value) d e ∙ stand.3 in (
         ((refl, stand.0, stand.1, stand.2, there), sooner bytes file (stand.0 + 1) from (file_findings results file fs) (omega (arith, stand.1)) later.0),
         (goes_before bytes file stand.0 (record { file = file; diag = d }) (file_findings results file fs) refl there later.0, later.1),
       )

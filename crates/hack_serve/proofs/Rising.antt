@@ -117,7 +117,7 @@ unit_stands bytes from front rest f unit cut = by unit.value unit.placed refl
     by [] placed e = absurd placed
     by (t ∷ ts) placed e =
         let whole : front ++ rest ≡ unit.front ++ (t ∷ (ts ++ (unit.back ++ rest))) =
-            ap (λ tokens. tokens ++ rest) (unit.parts ∙ ap (λ value. unit.front ++ value ++ unit.back) e) ∙ regroup unit.front t ts unit.back rest in
+        ap (λ tokens. tokens ++ rest) (unit.parts ∙ ap (λ value. unit.front ++ value ++ unit.back) e) ∙ regroup unit.front t ts unit.back rest in
         let inside = cut_behind bytes from unit.front (t ∷ (ts ++ (unit.back ++ rest))) (subst (IsCut bytes from) whole cut) in
         let token = inside.2 in
         let has_len = token_len bytes token.2 t token.3 in

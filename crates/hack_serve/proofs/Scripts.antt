@@ -35,8 +35,7 @@ first_is_read rest c after [] read script =
     absurd cc
 first_is_read rest c after (d ∷ more) read script =
     let found : read_command rest ≡ Some (d, flat_map spelling more) = ap read_command script.spelled ∙ read_command-found d (flat_map spelling more) script.limits.0 in
-    let same : ◌≡◌ {A = Command × List ℕ} (d, flat_map spelling more) (c, after) = cc in
-    (
+    let same : ◌≡◌ {A = Command × List ℕ} (d, flat_map spelling more) (c, after) = cc in (
       more,
       ap (λ (p : Command × List ℕ). p.0 ∷ more) same,
       record { limits = script.limits.1; spelled = sym (ap (λ (p : Command × List ℕ). p.1) same) },

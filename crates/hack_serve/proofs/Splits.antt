@@ -57,7 +57,7 @@ split_first-found byte (x ∷ front) rest none =
 split_some : (x byte : ℕ) (xs : List ℕ) (b : Bool) (o : Option (List ℕ × List ℕ)) (parts : List ℕ × List ℕ) → (x == byte) ≡ b → split_first byte xs ≡ o
     → ((inner : List ℕ × List ℕ) → o ≡ Some inner → xs ≡ inner.0 ++ byte ∷ inner.1)
     → cond b (Some ([], xs)) (o >>= λ parts. Some (x ∷ parts.0, parts.1)) ≡ Some parts → x ∷ xs ≡ parts.0 ++ byte ∷ parts.1
-split_some x byte xs true o parts test is inner e = 
+split_some x byte xs true o parts test is inner e =
     let same : x ≡ byte = grind (arith, nat_tests) in
     let p : ([], xs) ≡ parts = cc in
     ap (λ y. y ∷ xs) same ∙ ap (λ (q : List ℕ × List ℕ). q.0 ++ byte ∷ q.1) p

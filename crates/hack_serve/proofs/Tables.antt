@@ -36,7 +36,8 @@ pub at_start : (units : tree.BTreeMap (List ℕ) (Bor (List FirstUnit))) (result
 at_start units results no_units no_results = record {
   kept = λ name. kept_none (finite.get first_files name) (tree.get byte_order units name) (no_file name) (none_there units name no_units);
   declared = λ name result. (
-      λ e. let clash : ◌≡◌ {A = Option Primitive} None (Some result) = sym (none_there results name no_results) ∙ e in absurd cc,
-      λ has. absurd (nothing_declared has.file has.index has.function has.declares));
+    λ e. let clash : ◌≡◌ {A = Option Primitive} None (Some result) = sym (none_there results name no_results) ∙ e in absurd cc,
+    λ has. absurd (nothing_declared has.file has.index has.function has.declares),
+  );
   once = λ file other i j f g d e same. absurd (nothing_declared file i f d);
 }

@@ -1,5 +1,5 @@
--- What a check finds in files of first units (docs/language.md, First units). It knows one map of files, and nothing of
--- how they came.
+-- What a check finds in files of first units (docs/language.md, First units): facts about one map of files, whatever
+-- edits made it.
 use Rattle.std.specs.Prelude.{◌≡◌, ◌≢◌, ◌⊎◌, ℕ, List, ◌++◌, Some, slice_get, codes}
 use Rattle.std.specs.FinMap.{get}
 use Rattle.hack_base.specs.Files.{Files}

@@ -1,4 +1,4 @@
--- The scripts that the first path runs, and what it replies (docs/script.md, First scripts).
+-- The scripts that this build runs, and what it replies (docs/script.md, First scripts).
 use Rattle.std.specs.Prelude.{◌≡◌, ◌≤◌, ℕ, List, [], ◌∷◌, length}
 use Rattle.std.specs.List.{AllByRecursion}
 use Rattle.std.specs.FinMap.{empty}
@@ -12,7 +12,7 @@ use Rattle.hack_first.specs.Functions.{Function}
 use Rattle.hack_first.specs.FirstUnits.{IsFirstBody}
 use Rattle.hack_serve.specs.Findings.{DeclaresOnce, IsFirstReport}
 
--- the files before the first command
+-- the files before the first command: none
 abbrev pub first_files : Files
 first_files = empty
 

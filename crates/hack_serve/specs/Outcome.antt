@@ -52,8 +52,8 @@ abbrev pub IsCutShort : List ℕ → List ℕ → Type 0
 IsCutShort input out = (front : List Command) × (rest : List ℕ) × BeginsWith input front × AreReplies front (out ++ rest)
 
 -- out is nothing, or the replies to the first commands of the input, which is a first script
-abbrev pub IsBroken : List ℕ → List ℕ → Type 0
-IsBroken input out = (out ≡ []) ⊎ ((front : List Command) × BeginsWith input front × AreReplies front out)
+abbrev pub IsBrokenOff : List ℕ → List ℕ → Type 0
+IsBrokenOff input out = (out ≡ []) ⊎ ((front : List Command) × BeginsWith input front × AreReplies front out)
 
 -- what was written fits the status
 abbrev pub Fits : Status → List ℕ → List ℕ → Type 0
@@ -62,7 +62,7 @@ Fits Usage input out = out ≡ []
 Fits ReadFault input out = out ≡ []
 Fits WriteFault input out = IsCutShort input out
 Fits NotBuilt input out = IsRefused input × (out ≡ [])
-Fits NoMemory input out = IsBroken input out
+Fits NoMemory input out = IsBrokenOff input out
 
 -- what was written between the two is as P says
 abbrev pub Wrote : Option (List ℕ) → Option (List ℕ) → (List ℕ → Type 0) → Type 0

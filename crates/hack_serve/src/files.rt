@@ -37,11 +37,15 @@ impl<'s, 'a> Files<'s, 'a> {
 
     /// Puts a file of this name with these functions, and answers whether every name is declared once then.
     /// After `false` the tables stand for nothing.
-    pub(crate) fn put(&mut self, name: &'a [u8], units: &'s [FirstUnit<'a>]) -> Result<bool, NoMemory>
+    pub(crate) fn put(
+        &mut self,
+        name: &'a [u8],
+        units: &'s [FirstUnit<'a>],
+    ) -> Result<bool, NoMemory>
         ensures once { IfOk result (λ once. (files : model.Files) (body : List ℕ) → Stands self.old.units self.old.results files
             → IsBody body (functions_of units.now)
             → MatchBool once (Stands self.new.units self.new.results (model.after files (model.Put name.now body)))
-                (DeclaresOnce (model.after files (model.Put name.now body)) → ⊥)) }
+            (DeclaresOnce (model.after files (model.Put name.now body)) → ⊥)) }
     {
         if let Some(before) = self.units.insert(Name::new(name), units)? {
             forget(&mut self.results, before);
@@ -55,7 +59,7 @@ impl<'s, 'a> Files<'s, 'a> {
         ensures { IfOk result (λ once. (files : model.Files) (command : script.Command) → Stands self.old.units self.old.results files
             → IsStep command step.now
             → MatchBool once (Stands self.new.units self.new.results (files_after files command))
-                (DeclaresOnce (files_after files command) → ⊥)) }
+            (DeclaresOnce (files_after files command) → ⊥)) }
     {
         match step {
             Step::Put(name, units) => self.put(*name, units),
@@ -161,7 +165,10 @@ fn forget<'a>(results: &mut BTreeMap<Name<'a>, Primitive>, units: &[FirstUnit<'a
 }
 
 /// Puts the functions' names into the table, up to the first that stands there.
-fn declare<'a>(results: &mut BTreeMap<Name<'a>, Primitive>, units: &[FirstUnit<'a>]) -> Result<bool, NoMemory>
+fn declare<'a>(
+    results: &mut BTreeMap<Name<'a>, Primitive>,
+    units: &[FirstUnit<'a>],
+) -> Result<bool, NoMemory>
     ensures fresh { IfOk result (λ fresh. OnTrue fresh (AreFresh (functions_of units.now) results.old)) }
     ensures changed { IfOk result (λ fresh. OnTrue fresh (IsChanged its_result (functions_of units.now) results.old results.new)) }
     ensures taken { IfOk result (λ fresh. OnFalse fresh (IsTaken (functions_of units.now) results.old)) }

@@ -12,3 +12,6 @@ mod steps;
 
 pub use run::{hack_main, reply_to};
 pub use status::Status;
+
+#[cfg(test)]
+mod tests;

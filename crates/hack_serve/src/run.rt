@@ -4,7 +4,7 @@ ghost use Rattle.std.specs.Io.KnownBytes.{Appends};
 ghost use Rattle.hack_base.specs.Script as script;
 ghost use Rattle.hack_io.specs.Causes.{Rose};
 ghost use Rattle.hack_serve.specs.FirstScript.{IsFirstScript};
-ghost use Rattle.hack_serve.specs.Outcome.{Answers, AnswersTo, HasRead, IsRefused, IsAnswered, IsCutShort, IsBroken, TakesInput, Wrote};
+ghost use Rattle.hack_serve.specs.Outcome.{Answers, AnswersTo, HasRead, IsRefused, IsAnswered, IsCutShort, IsBrokenOff, TakesInput, Wrote};
 ghost use Rattle.hack_serve.specs.Steps.{AreSteps};
 
 use crate::Status;
@@ -20,7 +20,12 @@ use std::alloc::Global;
 ///
 /// Words are refused before anything is read. The source is taken to its end, or until there are 65,537 bytes,
 /// before anything is written. What each status says is docs/script.md, Statuses.
-pub fn hack_main<S: Source, K: Sink>(alloc: Global, words: &[String], source: &mut S, sink: &mut K) -> Status
+pub fn hack_main<S: Source, K: Sink>(
+    alloc: Global,
+    words: &[String],
+    source: &mut S,
+    sink: &mut K,
+) -> Status
     // Exactly where there are words; nothing is read or written then.
     ensures usage { (result ≡ Status.Usage) ↔ (0 < length words.now) }
     ensures untouched { result ≡ Status.Usage → (source.new ≡ source.old) × (sink.new ≡ sink.old) }
@@ -31,12 +36,12 @@ pub fn hack_main<S: Source, K: Sink>(alloc: Global, words: &[String], source: &m
     // Only where the input is no first script; nothing is written then.
     ensures not_built { result ≡ Status.NotBuilt → IfSome (S.left source.old) IsRefused × (sink.new ≡ sink.old) }
 
-    // Only where the sink's faults rose; what was written is the front of the replies to the first commands.
+    // Only where the sink's faults rose; what was written is a prefix of the replies.
     ensures write_fault { result ≡ Status.WriteFault → Rose (K.faults sink.old) (K.faults sink.new)
         × IfSome (S.left source.old) (λ input. Wrote (K.written sink.old) (K.written sink.new) (IsCutShort input)) }
 
-    // Nothing was written, or the replies to the first commands.
-    ensures no_memory { result ≡ Status.NoMemory → IfSome (S.left source.old) (λ input. Wrote (K.written sink.old) (K.written sink.new) (IsBroken input)) }
+    // What was written breaks off between two replies.
+    ensures no_memory { result ≡ Status.NoMemory → IfSome (S.left source.old) (λ input. Wrote (K.written sink.old) (K.written sink.new) (IsBrokenOff input)) }
 
     // The input is a first script, and exactly its replies were written.
     ensures done { result ≡ Status.Done → IfSome (S.left source.old) (λ input. Wrote (K.written sink.old) (K.written sink.new) (IsAnswered input)) }

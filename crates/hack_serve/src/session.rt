@@ -44,8 +44,8 @@ impl<'s, 'a> Session<'s, 'a> {
         ensures replied { IfOk result (λ text. (files : model.Files) (command : script.Command)
             → Stands self.old.files.units self.old.files.results files → IsStep command step.now → DeclaresOnce (files_after files command)
             → IsReplied files self.old.edits self.old.checks command text.items
-                × IsAfter self.old.edits self.old.checks command self.new.edits self.new.checks
-                × Stands self.new.files.units self.new.files.results (files_after files command)) }
+            × IsAfter self.old.edits self.old.checks command self.new.edits self.new.checks
+            × Stands self.new.files.units self.new.files.results (files_after files command)) }
         ensures edits { OnOk result (self.new.edits ≤ self.old.edits + 1) }
         ensures checks { OnOk result (self.new.checks ≤ self.old.checks + 1) }
     {
@@ -79,7 +79,11 @@ pub(crate) fn never_twice(alloc: Global, steps: &[Step<'_>]) -> Result<bool, NoM
 }
 
 /// Replies to every step in order, one push a reply.
-pub(crate) fn reply_all<K: Sink>(alloc: Global, steps: &[Step<'_>], sink: &mut K) -> Result<(), Status>
+pub(crate) fn reply_all<K: Sink>(
+    alloc: Global,
+    steps: &[Step<'_>],
+    sink: &mut K,
+) -> Result<(), Status>
     ensures done { OnOk result ((commands : List script.Command) → AreSteps commands steps.now → NeverTwice first_files commands
         → Writes (K.written sink.old) (K.written sink.new) commands) }
     ensures stopped { IfErr result (λ status. (commands : List script.Command) → AreSteps commands steps.now → NeverTwice first_files commands

@@ -18,7 +18,7 @@ pub enum Status {
     Usage,
     /// The source failed. Nothing was written.
     ReadFault,
-    /// The sink failed. A front of the replies was written.
+    /// The sink failed. A prefix of the replies was written.
     WriteFault,
     /// The input is no script that this build runs. Nothing was written.
     NotBuilt,

@@ -35,7 +35,10 @@ fn step_of<'a>(alloc: Global, command: &Command<'a>) -> Result<Option<Step<'a>>,
 }
 
 /// A step for each command, or `None` where some text is no list of first units.
-pub(crate) fn steps<'a>(alloc: Global, commands: &[Command<'a>]) -> Result<Option<Vec<Step<'a>>>, NoMemory>
+pub(crate) fn steps<'a>(
+    alloc: Global,
+    commands: &[Command<'a>],
+) -> Result<Option<Vec<Step<'a>>>, NoMemory>
     requires { AllByRecursion IsShort (map command_of commands.now) }
     ensures found { IfOk result (λ found. IfSome found (λ steps. AreSteps (map command_of commands.now) steps.items)) }
     ensures none { IfOk result (λ found. IfNone found (AllByRecursion HasFirstBody (map command_of commands.now) → ⊥)) }

@@ -20,8 +20,7 @@ returns-then-branch-clause-found c =
     let script = rw c.in-Some.is at c.in_ok-commands.ensures.found in
     let found = rw c.in-Some-2.is at c.in_ok-steps.ensures.found in
     let are : AreSteps commands c.in-Some-2.steps.items = subst (λ list. AreSteps (map command_of list) c.in-Some-2.steps.items) c.deref.ensures.value found in
-    let once = c.in_ok-never_twice.ensures commands (subst (AreSteps commands) (sym c.deref-2.ensures.value) are) in
-    (
+    let once = c.in_ok-never_twice.ensures commands (subst (AreSteps commands) (sym c.deref-2.ensures.value) are) in (
       commands,
       record {
         short = omega arith;

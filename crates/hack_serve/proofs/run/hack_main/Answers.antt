@@ -18,7 +18,7 @@ returns-in-Ok-clause-answers g c =
 pub returns-in-Err-clause-answers : goal.returns-in-Err-clause-answers
 returns-in-Err-clause-answers g c =
     answers_nothing c.in-Err.status (g.S.Source.left c.args.source.now) (g.K.Sink.written c.args.sink.now) (λ input.
-        ⊎_elim
-        (λ fault. subst (λ status. Fits status input []) (sym fault.0) refl)
-        (λ memory. subst (λ status. Fits status input []) (sym memory) (inl refl))
-        c.in-Err.ensures.stopped)
+    ⊎_elim
+    (λ fault. subst (λ status. Fits status input []) (sym fault.0) refl)
+    (λ memory. subst (λ status. Fits status input []) (sym memory) (inl refl))
+    c.in-Err.ensures.stopped)

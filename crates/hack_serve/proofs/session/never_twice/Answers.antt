@@ -16,7 +16,7 @@ returns-then-not-branch c = λ commands are.
     let i = c.loop-step.step-index in
     subst (λ once. MatchBool once (GoesOn (Stands new.units new.results) commands (drop (i + 1) steps)) (NeverTwice first_files commands → ⊥)) c.if-not-branch.true
     (goes_on-next (Stands old.units old.results) (Stands new.units new.results) commands steps i c.step-item.result c.in_ok-keep.field-0 c.loop-step-test.true c.step-item.is
-        (c.loop-step.invariant commands are) (λ files stands. stands.once) (λ files stands. stands.once) c.in_ok-keep.ensures)
+    (c.loop-step.invariant commands are) (λ files stands. stands.once) (λ files stands. stands.once) c.in_ok-keep.ensures)
 
 pub loop-step-preserved : goal.loop-step-preserved
 loop-step-preserved c = λ commands are.
@@ -26,7 +26,7 @@ loop-step-preserved c = λ commands are.
     let i = c.loop-step.step-index in
     subst (λ once. MatchBool once (GoesOn (Stands new.units new.results) commands (drop (i + 1) steps)) (NeverTwice first_files commands → ⊥)) c.if-not-branch.false
     (goes_on-next (Stands old.units old.results) (Stands new.units new.results) commands steps i c.step-item.result c.in_ok-keep.field-0 c.loop-step-test.true c.step-item.is
-        (c.loop-step.invariant commands are) (λ files stands. stands.once) (λ files stands. stands.once) c.in_ok-keep.ensures)
+    (c.loop-step.invariant commands are) (λ files stands. stands.once) (λ files stands. stands.once) c.in_ok-keep.ensures)
 
 pub returns : goal.returns
 returns c = λ commands are. goes_on-end _ commands c.args.steps.now c.loop-step.step-index c.loop-step-test.false (c.loop-step.invariant commands are)

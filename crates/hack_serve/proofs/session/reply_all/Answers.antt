@@ -27,9 +27,9 @@ returns-in_err-push-clause-stopped g c =
     let new = c.reply.new.self in
     let part = c.in_err-push.ensures.bytes in
     rw (p.1, p.2) (λ commands are once.
-        cut_short (Stands old.files.units old.files.results) (Stands new.files.units new.files.results) old.edits old.checks new.edits new.checks commands c.args.steps.now c.loop-step.step-index c.step-item.result _ _
-        c.in_ok-text.text.items c.loop-step-test.true c.step-item.is (c.loop-step.invariant.run commands are once) c.in_ok-text.ensures.replied _ part.0
-        (subst (λ text. Appends (g.K.Sink.written c.loop-step.sink) (g.K.Sink.written c.push.new.self) (take part.0 text)) c.deref.ensures.value part.2))
+    cut_short (Stands old.files.units old.files.results) (Stands new.files.units new.files.results) old.edits old.checks new.edits new.checks commands c.args.steps.now c.loop-step.step-index c.step-item.result _ _
+    c.in_ok-text.text.items c.loop-step-test.true c.step-item.is (c.loop-step.invariant.run commands are once) c.in_ok-text.ensures.replied _ part.0
+    (subst (λ text. Appends (g.K.Sink.written c.loop-step.sink) (g.K.Sink.written c.push.new.self) (take part.0 text)) c.deref.ensures.value part.2))
 
 pub loop-step-preserved : goal.loop-step-preserved
 loop-step-preserved g c =
