@@ -1,23 +1,16 @@
 -- Names that are set in a table or taken out of it, one function after another, and names that are fresh.
-use Rattle.std.proofs.Common.{◌≡◌, ◌≢◌, ◌⊎◌, ◌↔◌, ℕ, zero, suc, ◌+◌, ◌<◌, ◌≤◌, Bool, true, false, cond, List, [], ◌∷◌, ◌++◌, Option, None, Some, length, map, take, drop, get_or, refl, sym, ap, ◌∙◌, subst, arith, inl, inr, ⊎_elim}
-use Rattle.std.specs.Prelude.{slice_get, is_some}
-use Rattle.std.specs.Borrow.{Bor}
+use Rattle.std.proofs.Common.{◌≡◌, ◌≢◌, ◌⊎◌, ℕ, zero, suc, ◌<◌, Bool, true, false, cond, List, [], ◌∷◌, Option, None, Some, take, refl, sym, ap, ◌∙◌, subst, arith, inl, inr, ⊎_elim}
+use Rattle.std.specs.Prelude.{slice_get}
 use Rattle.std.specs.Ordering.{eq_by_cmp}
 use Rattle.std.specs.Cmp.{Equal-is, eq_by_cmp_equiv}
 use Rattle.std.specs.Cmp.Lexicographic.{nat_list_cmp_total}
 use Rattle.std.proofs.lemmas.Bool.{cases_lt}
 use Rattle.std.specs.BTreeMap as tree
-use Rattle.std.specs.FinMap as finite
-use Rattle.std.specs.FinMap.{IsAntisymmetric, slice_cmp-IsAntisymmetric, nat_cmp-IsAntisymmetric}
-use Rattle.std.proofs.lemmas.List.{take-append-le}
-use Rattle.std.proofs.lemmas.Option.{slice_get_within}
-use Rattle.hack_base.specs.Files.{Files, Put, after, byte_order}
+use Rattle.std.specs.FinMap.{slice_cmp-IsAntisymmetric, nat_cmp-IsAntisymmetric}
+use Rattle.hack_base.specs.Files.{byte_order}
 use Rattle.hack_first.specs.declared.unit.Primitive.{Primitive}
-use Rattle.hack_first.specs.declared.unit.FirstUnit.{FirstUnit}
-use Rattle.hack_first.specs.Functions.{Function, function_of}
-use Rattle.hack_first.specs.FirstUnits.{IsFirstBody}
-use Rattle.hack_serve.specs.Findings.{Declares, DeclaresOnce, HasResult}
-use Rattle.hack_serve.specs.Steps.{Stands, IsKept, IsBody, changed, IsChanged, AreFresh, IsTaken, found_before, functions_of, no_result, its_result}
+use Rattle.hack_first.specs.Functions.{Function}
+use Rattle.hack_serve.specs.Steps.{changed, AreFresh, no_result, its_result}
 
 -- ---- names that are the same
 

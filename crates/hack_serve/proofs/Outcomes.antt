@@ -1,11 +1,9 @@
 -- From the bytes that were taken to the input.
-use Rattle.std.proofs.Common.{◌≡◌, ◌⊎◌, ℕ, ◌+◌, ◌<◌, ◌≤◌, List, [], ◌∷◌, ◌++◌, Option, None, Some, length, drop, refl, sym, ap, ◌∙◌, subst, arith, inl, inr, ⊎_elim, append-nil, length-append}
-use Rattle.std.specs.Io.KnownBytes.{Appends, Consumes, IsAtEnd}
+use Rattle.std.proofs.Common.{◌≡◌, ℕ, ◌<◌, List, [], ◌++◌, Option, None, Some, length, drop, refl, sym, ap, ◌∙◌, subst, arith, inl, inr, ⊎_elim, append-nil, length-append}
 use Rattle.std.proofs.KnownBytes.{Appends-nil}
 use Rattle.std.proofs.lemmas.List.{drop_at, drop_all}
 use Rattle.std.proofs.lemmas.Bool.{cases_lt}
-use Rattle.hack_serve.specs.FirstScript.{IsFirstScript}
-use Rattle.hack_serve.specs.Outcome.{IsTaken, IsInput, IsRefused, IsAnswered, IsCutShort, IsBrokenOff, Fits, Wrote, AnswersTo, Answers, TakesInput}
+use Rattle.hack_serve.specs.Outcome.{IsTaken, IsRefused, Fits, AnswersTo, Answers, TakesInput}
 use Rattle.hack_serve.specs.declared.status.Status.{Status}
 use Rattle.hack_serve.specs.declared.status.Status.TheVariants.{Done, Usage, ReadFault, WriteFault, NotBuilt, NoMemory}
 

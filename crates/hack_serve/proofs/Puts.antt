@@ -1,5 +1,5 @@
 -- The tables after a file was put, and the files that they stand for then.
-use Rattle.std.proofs.Common.{◌≡◌, ◌≢◌, ◌⊎◌, ◌↔◌, ℕ, zero, suc, ◌+◌, ◌<◌, ◌≤◌, Bool, true, false, cond, List, [], ◌∷◌, ◌++◌, Option, None, Some, Result, Ok, Err, length, map, take, drop, get_or, refl, sym, ap, ◌∙◌, subst, arith, inl, inr, ⊎_elim}
+use Rattle.std.proofs.Common.{◌≡◌, ◌≢◌, ◌⊎◌, ◌↔◌, ℕ, ◌<◌, Bool, true, false, cond, List, Option, None, Some, Result, Ok, Err, take, refl, sym, ap, ◌∙◌, subst, arith, inl, inr, ⊎_elim}
 use Rattle.std.specs.Prelude.{slice_get}
 use Rattle.std.specs.Borrow.{Bor}
 use Rattle.std.specs.Cmp.Lexicographic.{nat_list_cmp_total}
@@ -13,11 +13,11 @@ use Rattle.std.proofs.lemmas.Option.{slice_get_within}
 use Rattle.hack_base.specs.Files.{Files, Put, after, byte_order}
 use Rattle.hack_first.specs.declared.unit.Primitive.{Primitive}
 use Rattle.hack_first.specs.declared.unit.FirstUnit.{FirstUnit}
-use Rattle.hack_first.specs.Functions.{Function, function_of}
+use Rattle.hack_first.specs.Functions.{Function}
 use Rattle.hack_first.specs.FirstUnits.{IsFirstBody}
 use Rattle.hack_serve.specs.Findings.{Declares, DeclaresOnce, HasResult}
-use Rattle.hack_serve.specs.Steps.{Stands, IsKept, IsBody, changed, IsChanged, AreFresh, IsTaken, found_before, functions_of, no_result, its_result}
-use Rattle.hack_serve.proofs.Fresh.{IsAmong, HasNone, same, same_or_not, same_from, same-refl, changed-some, changed-found, changed-none, forgotten, kept_on, fresh-distinct, fresh-none, fresh-set, slice_get-take}
+use Rattle.hack_serve.specs.Steps.{Stands, IsKept, IsBody, changed, IsChanged, AreFresh, IsTaken, functions_of, no_result, its_result}
+use Rattle.hack_serve.proofs.Fresh.{HasNone, same, same_or_not, same_from, same-refl, changed-found, changed-none, forgotten, kept_on, fresh-distinct, fresh-none, fresh-set, slice_get-take}
 
 -- ---- what is kept of a file
 

@@ -1,12 +1,10 @@
 -- Steps, their replies, and runs of them.
-use Rattle.std.proofs.Common.{◌≡◌, ◌⊎◌, ℕ, zero, suc, ◌+◌, ◌<◌, ◌≤◌, Bool, true, false, List, [], ◌∷◌, ◌++◌, Option, None, Some, Result, Ok, Err, Vec, Global, length, map, take, drop, get_or, refl, sym, ap, ◌∙◌, subst, arith, inl, inr, ⊎_elim, append_assoc, append-nil, take-append-drop}
+use Rattle.std.proofs.Common.{◌≡◌, ℕ, ◌+◌, ◌<◌, ◌≤◌, Bool, true, false, List, [], ◌∷◌, ◌++◌, Option, Result, Ok, Err, Vec, Global, length, take, drop, get_or, refl, sym, ap, ◌∙◌, subst, append_assoc, append-nil, take-append-drop}
 use Rattle.std.specs.Prelude.{IfOk, MatchBool}
 use Rattle.std.specs.Borrow.{Bor}
-use Rattle.std.specs.List.{flat_map}
 use Rattle.std.specs.Io.KnownBytes.{Appends}
 use Rattle.std.proofs.KnownBytes.{Appends-nil, Appends-trans}
-use Rattle.std.proofs.lemmas.List.{drop_more, drop_all, flat_map_more}
-use Rattle.std.specs.BTreeMap as tree
+use Rattle.std.proofs.lemmas.List.{drop_more, drop_all}
 use Rattle.hack_base.specs.Files.{Files, Put, after}
 use Rattle.hack_base.specs.Script as script
 use Rattle.hack_base.specs.Replies.{Reply, Edited, Reported, Replies, reply_text, replies_text}
@@ -17,7 +15,7 @@ use Rattle.hack_serve.specs.declared.steps.Step.{Step}
 use Rattle.hack_serve.specs.declared.steps.Step.TheVariants as step
 use Rattle.hack_serve.specs.Findings.{DeclaresOnce, IsFirstReport}
 use Rattle.hack_serve.specs.FirstScript.{NeverTwice, AreReplies, first_files}
-use Rattle.hack_serve.specs.Steps.{Stands, IsStep, AreSteps, IsBody, functions_of}
+use Rattle.hack_serve.specs.Steps.{IsStep, AreSteps, IsBody, functions_of}
 use Rattle.hack_serve.specs.Session.{files_after, IsReply, IsReplied, IsAfter, IsStopped, Writes}
 use Rattle.hack_serve.specs.declared.status.Status.TheVariants as status
 

@@ -1,15 +1,14 @@
 -- The findings in all files, one after another, are the report.
-use Rattle.std.proofs.Common.{◌≡◌, ◌≢◌, ◌⊎◌, ◌↔◌, ℕ, zero, suc, ◌+◌, ◌<◌, ◌≤◌, Bool, true, false, cond, List, [], ◌∷◌, ◌++◌, Option, None, Some, length, map, take, drop, get_or, refl, sym, ap, ◌∙◌, subst, arith, inl, inr, ⊎_elim}
+use Rattle.std.proofs.Common.{◌≡◌, ◌≢◌, ◌↔◌, ℕ, zero, suc, ◌+◌, ◌<◌, ◌≤◌, Bool, true, false, cond, List, [], ◌∷◌, ◌++◌, Option, None, Some, length, get_or, refl, sym, ap, ◌∙◌, subst, arith, inl, inr, ⊎_elim}
 use Rattle.std.specs.Prelude.{slice_get, Contains, All}
 use Rattle.std.specs.Borrow.{Bor}
 use Rattle.std.specs.BTreeMap as tree
 use Rattle.std.specs.FinMap as finite
-use Rattle.std.specs.List.{flat_map, AllByRecursion}
+use Rattle.std.specs.List.{AllByRecursion}
 use Rattle.std.specs.List.Sorted.{IsStrictlySortedBy}
 use Rattle.std.specs.Map.{lookup, keys_of}
-use Rattle.std.specs.Ordering.{nat_cmp, ordering_then, eq_by_cmp}
+use Rattle.std.specs.Ordering.{nat_cmp, ordering_then}
 use Rattle.std.specs.Cmp.{Equal-is}
-use Rattle.std.specs.declared.cmp.Ordering.{Ordering}
 use Rattle.std.specs.declared.cmp.Ordering.TheVariants.{Less, Equal}
 use Rattle.std.proofs.lemmas.List.Elements.{Contains-append_left, Contains-append_right, Contains-append_cases, recursion_from_All}
 use Rattle.std.proofs.lemmas.Map.Keys.{Less-from_sorted}
@@ -21,10 +20,10 @@ use Rattle.hack_tree.specs.Report.{place_order, report_order, IsReport}
 use Rattle.hack_first.specs.declared.unit.Primitive.{Primitive}
 use Rattle.hack_first.specs.declared.unit.Primitive.TheVariants.{Int, Str}
 use Rattle.hack_first.specs.declared.unit.FirstUnit.{FirstUnit}
-use Rattle.hack_first.specs.Functions.{Function, Value, OfType, OfCall, function_of}
+use Rattle.hack_first.specs.Functions.{Function, Value, OfType, OfCall}
 use Rattle.hack_first.specs.FirstUnits.{IsFirstBody}
-use Rattle.hack_serve.specs.Findings.{Declares, DeclaresOnce, HasResult, HasType, IsUnbound, IsFinding, IsFirstFinding, mismatch, unbound}
-use Rattle.hack_serve.specs.Steps.{Stands, IsKept, IsBody, functions_of, type_found, called, same_type, finding_for, with_file, file_findings, all_findings}
+use Rattle.hack_serve.specs.Findings.{Declares, HasResult, HasType, IsUnbound, IsFinding, IsFirstFinding, mismatch, unbound}
+use Rattle.hack_serve.specs.Steps.{Stands, IsKept, functions_of, type_found, called, same_type, finding_for, with_file, file_findings, all_findings}
 use Rattle.hack_serve.proofs.Fresh.{same_or_not, same-refl}
 use Rattle.hack_serve.proofs.Puts.{kept_file}
 use Rattle.hack_serve.proofs.Rising.{StandFrom, functions_stand, places_rise}

@@ -1,15 +1,13 @@
 -- Later functions of a text stand at later places.
-use Rattle.std.proofs.Common.{◌≡◌, ◌⊎◌, ℕ, zero, suc, ◌+◌, ◌-◌, ◌<◌, ◌≤◌, ◌==◌, Bool, true, false, cond, List, [], ◌∷◌, ◌++◌, length, map, take, drop, refl, sym, ap, ◌∙◌, subst, arith, inl, inr, ⊎_elim, append_assoc, take-append-drop, length-take, length-drop}
+use Rattle.std.proofs.Common.{◌≡◌, ◌⊎◌, ℕ, zero, suc, ◌+◌, ◌-◌, ◌<◌, ◌≤◌, ◌==◌, Bool, true, false, cond, List, [], ◌∷◌, ◌++◌, length, take, drop, refl, sym, ap, ◌∙◌, subst, arith, inl, inr, append_assoc, take-append-drop, length-take, length-drop}
 use Rattle.std.specs.Ordering.{nat_cmp, ordering_then}
 use Rattle.std.specs.Cmp.{nat_cmp_is}
-use Rattle.std.specs.declared.cmp.Ordering.{Ordering}
 use Rattle.std.specs.declared.cmp.Ordering.TheVariants.{Less, Equal}
-use Rattle.std.specs.List.{AllByRecursion}
-use Rattle.std.proofs.lemmas.List.{drop-take, take-take}
+use Rattle.std.proofs.lemmas.List.{take-take}
 use Rattle.hack_lexer.specs.declared.first_token.FirstKind.{FirstKind}
 use Rattle.hack_lexer.specs.declared.first_token.FirstKind.TheVariants.{Word, Int, Quoted, Mark}
 use Rattle.hack_lexer.specs.declared.first_token.FirstToken.{FirstToken}
-use Rattle.hack_lexer.specs.FirstTokens.{HasForm, IsTokenAt, IsCut, AreTokens, text_of}
+use Rattle.hack_lexer.specs.FirstTokens.{HasForm, IsTokenAt, IsCut}
 use Rattle.hack_tree.specs.declared.place.Place.{Place}
 use Rattle.hack_tree.specs.Places.{behind, behind_all, place_of}
 use Rattle.hack_tree.specs.Report.{place_order}

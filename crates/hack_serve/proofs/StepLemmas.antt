@@ -1,5 +1,5 @@
 -- Steps and their commands, one by one.
-use Rattle.std.proofs.Common.{◌≡◌, ℕ, zero, suc, ◌+◌, ◌<◌, ◌≤◌, List, [], ◌∷◌, ◌++◌, length, map, take, drop, get_or, refl, sym, ap, ◌∙◌, subst, arith}
+use Rattle.std.proofs.Common.{◌≡◌, ℕ, zero, suc, ◌+◌, ◌<◌, List, [], ◌∷◌, ◌++◌, length, map, take, get_or, ap, ◌∙◌, arith}
 use Rattle.std.specs.List.{AllByRecursion}
 use Rattle.std.proofs.lemmas.List.{map-append, take_more}
 use Rattle.hack_base.specs.Script as script
@@ -8,7 +8,7 @@ use Rattle.hack_serve.specs.Commands.{command_of}
 use Rattle.hack_serve.specs.declared.steps.Step.{Step}
 use Rattle.hack_serve.specs.declared.steps.Step.TheVariants.{Put, Report}
 use Rattle.hack_serve.specs.FirstScript.{HasFirstBody}
-use Rattle.hack_serve.specs.Steps.{IsStep, AreSteps, IsShort, functions_of}
+use Rattle.hack_serve.specs.Steps.{IsStep, AreSteps, functions_of}
 
 pub AreSteps-push : (commands : List script.Command) (steps : List Step) (c : script.Command) (s : Step) → AreSteps commands steps → IsStep c s → AreSteps (commands ++ c ∷ []) (steps ++ s ∷ [])
 AreSteps-push [] [] c s all one = (one, tt)

@@ -1,18 +1,16 @@
 -- The server's tables, and the files that they stand for.
-use Rattle.std.proofs.Common.{◌≡◌, ◌⊎◌, ℕ, zero, suc, ◌+◌, ◌<◌, ◌≤◌, Bool, true, false, cond, List, [], ◌∷◌, ◌++◌, Option, None, Some, length, map, take, drop, get_or, refl, sym, ap, ◌∙◌, subst, arith, inl, inr, ⊎_elim}
-use Rattle.std.specs.Prelude.{slice_get}
+use Rattle.std.proofs.Common.{◌≡◌, ℕ, List, [], Option, None, Some, sym, ap, ◌∙◌}
 use Rattle.std.specs.Borrow.{Bor}
 use Rattle.std.specs.BTreeMap as tree
 use Rattle.std.specs.FinMap as finite
 use Rattle.std.specs.Map.{lookup}
-use Rattle.hack_base.specs.Files.{Files, byte_order}
+use Rattle.hack_base.specs.Files.{byte_order}
 use Rattle.hack_first.specs.declared.unit.Primitive.{Primitive}
 use Rattle.hack_first.specs.declared.unit.FirstUnit.{FirstUnit}
-use Rattle.hack_first.specs.Functions.{Function, function_of}
-use Rattle.hack_first.specs.FirstUnits.{IsFirstBody}
-use Rattle.hack_serve.specs.Findings.{Declares, DeclaresOnce, HasResult}
+use Rattle.hack_first.specs.Functions.{Function}
+use Rattle.hack_serve.specs.Findings.{Declares}
 use Rattle.hack_serve.specs.FirstScript.{first_files}
-use Rattle.hack_serve.specs.Steps.{Stands, IsKept, IsBody, functions_of}
+use Rattle.hack_serve.specs.Steps.{Stands, IsKept}
 
 -- ---- at the start
 

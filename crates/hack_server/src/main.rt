@@ -4,11 +4,10 @@
 use hack_io::{StdSink, StdSource};
 use hack_serve::{Status, hack_main};
 use std::alloc::Global;
-use std::env;
 use std::env::Args;
-use std::io;
 use std::io::{Read, Write};
 use std::process::ExitCode;
+use std::{env, io};
 
 fn main(rt: HostRuntime) -> ExitCode {
     let status = match env::args(&rt) {
@@ -24,7 +23,12 @@ fn main(rt: HostRuntime) -> ExitCode {
 /// Runs the server on the command line, whose first word is the program's name.
 fn run<R: Read + Drop, W: Write + Drop>(alloc: Global, args: Args, reader: R, writer: W) -> Status {
     match args.skip(1).collect::<Vec<String>>(alloc) {
-        Ok(words) => hack_main(alloc, &words, &mut StdSource::new(reader), &mut StdSink::new(writer)),
+        Ok(words) => hack_main(
+            alloc,
+            &words,
+            &mut StdSource::new(reader),
+            &mut StdSink::new(writer),
+        ),
         Err(_) => Status::NoMemory,
     }
 }

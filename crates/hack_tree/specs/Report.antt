@@ -1,5 +1,5 @@
 -- Reports: which lists of diagnostics are one, and how a diagnostic is written (docs/definitions.md, Report).
-use Rattle.std.specs.Prelude.{◌≡◌, ℕ, List, [], ◌∷◌, ◌++◌, ◌↔◌, AllPairs, Contains, codes}
+use Rattle.std.specs.Prelude.{◌≡◌, ℕ, List, ◌++◌, ◌↔◌, AllPairs, Contains, codes}
 use Rattle.std.specs.Ordering.{nat_cmp, ordering_then}
 use Rattle.std.specs.declared.cmp.Ordering.{Ordering}
 use Rattle.std.specs.declared.cmp.Ordering.TheVariants.{Less}
@@ -7,7 +7,6 @@ use Rattle.std.specs.Fmt.{decimal}
 use Rattle.hack_base.specs.Files.{byte_order}
 use Rattle.hack_base.specs.Script.{newline}
 use Rattle.hack_tree.specs.declared.place.Place.{Place}
-use Rattle.hack_tree.specs.declared.diag.Diag.{Diag}
 use Rattle.hack_tree.specs.declared.diag.FileDiag.{FileDiag}
 
 -- by line, then by column

@@ -1,4 +1,4 @@
-use Rattle.std.proofs.Common.{◌≡◌, ◌∷◌, [], ◌++◌, ap, ◌∙◌}
+use Rattle.std.proofs.Common.{◌++◌, ap, ◌∙◌}
 use Rattle.hack_serve.proofs.Lines.{line_pushed}
 use Rattle.hack_serve.proofs.reply.push_line.Goals as goal
 

@@ -1,6 +1,6 @@
-use Rattle.std.proofs.Common.{[], refl, sym, subst, inl, ⊎_elim, arith}
+use Rattle.std.proofs.Common.{[], refl, sym, subst, inl, ⊎_elim}
 use Rattle.hack_serve.specs.declared.status.Status.TheVariants.{Usage}
-use Rattle.hack_serve.specs.Outcome.{Fits, AnswersTo, Answers}
+use Rattle.hack_serve.specs.Outcome.{Fits, AnswersTo}
 use Rattle.hack_serve.proofs.Outcomes.{takes_input, answers_input, answers_nothing}
 use Rattle.hack_serve.proofs.run.hack_main.Goals as goal
 

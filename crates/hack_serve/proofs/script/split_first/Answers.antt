@@ -1,4 +1,4 @@
-use Rattle.std.proofs.Common.{◌+◌, Some, take, drop, sym, ap, ◌∙◌}
+use Rattle.std.proofs.Common.{◌+◌, Some, take, sym, ap, ◌∙◌}
 use Rattle.std.proofs.lemmas.List.{take_rest}
 use Rattle.std.specs.Option.{option_map}
 use Rattle.hack_serve.proofs.Splits.{parts_at, split_first-position}

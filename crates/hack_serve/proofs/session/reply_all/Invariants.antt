@@ -1,4 +1,4 @@
-use Rattle.std.proofs.Common.{◌≡◌, ◌+◌, ◌≤◌, List, drop}
+use Rattle.std.proofs.Common.{◌≡◌, ◌≤◌, List, drop}
 use Rattle.hack_base.specs.Script.{Command}
 use Rattle.hack_serve.specs.FirstScript.{NeverTwice, first_files}
 use Rattle.hack_serve.specs.Steps.{AreSteps, Stands}

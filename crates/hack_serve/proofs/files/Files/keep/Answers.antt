@@ -1,4 +1,3 @@
-use Rattle.hack_base.specs.Files.{Files}
 use Rattle.hack_serve.specs.Steps.{Stands}
 use Rattle.hack_serve.proofs.Replying.{put_as_step}
 use Rattle.hack_serve.proofs.files.Files.keep.Goals as goal

@@ -1,4 +1,4 @@
-use Rattle.std.proofs.Common.{[], ◌++◌, sym, ap, ◌∙◌, append-nil}
+use Rattle.std.proofs.Common.{◌++◌, sym, ap, ◌∙◌, append-nil}
 use Rattle.hack_serve.specs.Steps.{all_findings}
 use Rattle.hack_serve.proofs.Reports.{is_report}
 use Rattle.hack_serve.proofs.files.Files.report.Goals as goal
