@@ -1,4 +1,3 @@
-use Rattle.std.proofs.Common.{arith}
 use Rattle.hack_io.proofs.Moves.{pushed_more}
 use Rattle.hack_io.proofs.std_sink.StdSinkSink.push.Goals as goal
 
