@@ -4,6 +4,8 @@
 
 mod bytes;
 mod name;
+#[cfg(test)]
+mod tests;
 
 pub use bytes::Bytes;
 pub use name::Name;

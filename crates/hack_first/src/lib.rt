@@ -4,6 +4,8 @@
 mod keywords;
 mod lexeme;
 mod parse;
+#[cfg(test)]
+mod tests;
 mod unit;
 
 pub use parse::first_units;
