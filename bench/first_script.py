@@ -1,5 +1,6 @@
 #!/usr/bin/env python3
-"""Times the built program on the largest script that this build runs, beside `wc -c` and `cat` on the same bytes.
+"""Times the built program on the largest script that this build runs, beside `cat`, `wc -c` and `wc -w` on
+the same bytes.
 
 The script has 65,536 bytes: a thousand functions in twenty files, of which three in four are calls, then as many
 files written anew as fit, with a check behind each. It is the same in every run.
@@ -97,7 +98,7 @@ def main():
     # The wrapper builds the program where that is needed.
     out = subprocess.run([f"{TOP}/bin/hack_server"], input=text, stdout=subprocess.PIPE, check=True).stdout
     program = f"{TOP}/crates/hack_server/out/hack_server"
-    commands = [[program], ["cat"], ["wc", "-c"]]
+    commands = [[program], ["cat"], ["wc", "-c"], ["wc", "-w"]]
     best = [float("inf")] * len(commands)
     for _ in range(runs):
         for at, command in enumerate(commands):
@@ -106,9 +107,10 @@ def main():
     checks = text.count(b"\ncheck\n")
     print(f"script: {len(text)} bytes, {FILES * FUNCTIONS} functions, {checks} checks; replies: {len(out)} bytes")
     print(f"best of {runs} runs, from start to end")
-    print(f"{'program':<12} {'ms':>8} {'to cat':>8} {'to wc -c':>9}")
-    for name, time_of in zip(("hack_server", "cat", "wc -c"), best):
-        print(f"{name:<12} {time_of * 1e3:>8.3f} {time_of / best[1]:>8.2f} {time_of / best[2]:>9.2f}")
+    print(f"{'program':<12} {'ms':>8} {'to cat':>8} {'to wc -c':>9} {'to wc -w':>9}")
+    for name, time_of in zip(("hack_server", "cat", "wc -c", "wc -w"), best):
+        ratios = [time_of / other for other in best[1:]]
+        print(f"{name:<12} {time_of * 1e3:>8.3f} {ratios[0]:>8.2f} {ratios[1]:>9.2f} {ratios[2]:>9.2f}")
 
 
 if __name__ == "__main__":

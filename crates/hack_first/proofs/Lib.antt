@@ -1,4 +1,5 @@
-pub mod KeywordSearch
+pub mod CallerLemmas
+pub mod Numbers
 pub mod Behind
 pub mod Lists
 pub mod Taken

@@ -2,7 +2,7 @@
 -- and whose body is one return of a literal or a call; it has no attributes and no parameters of either sort
 -- (docs/language.md, First units).
 use Rattle.std.specs.Prelude.{ℕ, List, codes}
-use Rattle.hack_tree.specs.declared.place.Place.{Place}
+use Rattle.hack_types.specs.declared.place.Place.{Place}
 use Rattle.hack_first.specs.declared.unit.Primitive.{Primitive}
 use Rattle.hack_first.specs.declared.unit.Primitive.TheVariants.{Int, Str}
 use Rattle.hack_first.specs.declared.unit.Returned.{Returned}

@@ -1,7 +1,6 @@
 //! The test for the first scripts' bodies: lists of functions without parameters that return a literal or a call.
 #![tactic(auto)]
 
-mod keywords;
 mod lexeme;
 mod parse;
 #[cfg(test)]

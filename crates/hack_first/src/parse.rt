@@ -1,18 +1,17 @@
 // Reads the bytes of a file as a list of first units.
 ghost use Rattle.std.specs.Prelude.{◌≡◌, ◌≤◌, List, [], length, map, IfOk, IfSome, IfNone};
 ghost use Rattle.std.specs.Option.{option_map};
-ghost use Rattle.hack_lexer.specs.FirstTokens.{sort_of};
+ghost use Rattle.hack_lexer.specs.Kinds.{sort_of_kind};
 ghost use Rattle.hack_first.specs.Functions.{Function, OfCall, function_of, value_of};
-ghost use Rattle.hack_first.specs.FirstUnits.{IsFirstBody, word as word_lexeme, mark as mark_lexeme};
+ghost use Rattle.hack_first.specs.FirstUnits.{IsFirstBody, keyword as keyword_lexeme, mark as mark_lexeme};
 ghost use Rattle.hack_first.specs.Reading as spec;
 ghost use Rattle.hack_first.specs.Reading.{Reads, placed_of};
 
-use crate::keywords::is_keyword;
 use crate::lexeme::{PlacedLexeme, placed_lexemes};
 use crate::{FirstUnit, Primitive, Returned};
 use hack_io::NoMemory;
-use hack_lexer::{FirstKind, first_tokens};
-use hack_tree::Place;
+use hack_lexer::{Keyword, LexStop, Mark, TokenKind, tokens};
+use hack_types::Place;
 use std::alloc::Global;
 
 type Lexemes<'l, 'a> = &'l [PlacedLexeme<'a>];
@@ -24,9 +23,10 @@ pub fn first_units(alloc: Global, body: &[u8]) -> Result<Option<Vec<FirstUnit<'_
     ensures only { IfOk result (λ found. IfSome found (λ units. (other : List Function) → IsFirstBody body.now other → map function_of units.items ≡ other)) }
     ensures none { IfOk result (λ found. IfNone found ((functions : List Function) → IsFirstBody body.now functions → ⊥)) }
 {
-    match first_tokens(alloc, body)? {
-        Some(tokens) => units(alloc, &placed_lexemes(alloc, body, &tokens)?),
-        None => Ok(None),
+    match tokens(alloc, body) {
+        Ok(tokens) => units(alloc, &placed_lexemes(alloc, body, &tokens)?),
+        Err(LexStop::Fault { .. }) => Ok(None),
+        Err(LexStop::NoMemory) => Err(NoMemory),
     }
 }
 
@@ -76,14 +76,14 @@ fn unit<'l, 'a>(lexemes: Lexemes<'l, 'a>) -> Option<(FirstUnit<'a>, Lexemes<'l, 
 fn opening<'l, 'a>(lexemes: Lexemes<'l, 'a>) -> Option<((&'a [u8], Primitive), Lexemes<'l, 'a>)>
     ensures { option_map (λ x. ((x.0.0.now, x.0.1), map placed_of x.1.now)) result ≡ spec.opening_at (map placed_of lexemes.now) }
 {
-    let rest = word(lexemes, b"function")?;
+    let rest = keyword(lexemes, Keyword::Function)?;
     let (name, rest) = name(rest)?;
-    let rest = mark(rest, b"(")?;
-    let rest = mark(rest, b")")?;
-    let rest = mark(rest, b":")?;
+    let rest = mark(rest, Mark::OpenParen)?;
+    let rest = mark(rest, Mark::CloseParen)?;
+    let rest = mark(rest, Mark::Colon)?;
     let (result, rest) = result_type(rest)?;
-    let rest = mark(rest, b"{")?;
-    let rest = word(rest, b"return")?;
+    let rest = mark(rest, Mark::OpenBrace)?;
+    let rest = keyword(rest, Keyword::Return)?;
     Some(((name, result), rest))
 }
 
@@ -94,9 +94,11 @@ fn value<'l, 'a>(lexemes: Lexemes<'l, 'a>) -> Option<((Returned<'a>, Place), Lex
 {
     let (first, rest) = lexemes.split_first()?;
     match first.kind {
-        FirstKind::Int => Some(((Returned::Literal(Primitive::Int), first.at), rest)),
-        FirstKind::Quoted => Some(((Returned::Literal(Primitive::Str), first.at), rest)),
-        FirstKind::Word | FirstKind::Mark => {
+        TokenKind::Int => Some(((Returned::Literal(Primitive::Int), first.at), rest)),
+        TokenKind::Text | TokenKind::KeyText => {
+            Some(((Returned::Literal(Primitive::Str), first.at), rest))
+        }
+        _ => {
             let (name, rest) = call(lexemes)?;
             Some(((Returned::Call(name), first.at), rest))
         }
@@ -109,8 +111,8 @@ fn call<'l, 'a>(lexemes: Lexemes<'l, 'a>) -> Option<(&'a [u8], Lexemes<'l, 'a>)>
     ensures { option_map (λ x. (OfCall x.0.now, map placed_of x.1.now)) result ≡ spec.call_at (map placed_of lexemes.now) }
 {
     let (name, rest) = name(lexemes)?;
-    let rest = mark(rest, b"(")?;
-    let rest = mark(rest, b")")?;
+    let rest = mark(rest, Mark::OpenParen)?;
+    let rest = mark(rest, Mark::CloseParen)?;
     Some((name, rest))
 }
 
@@ -119,11 +121,11 @@ fn call<'l, 'a>(lexemes: Lexemes<'l, 'a>) -> Option<(&'a [u8], Lexemes<'l, 'a>)>
 fn closing<'l, 'a>(lexemes: Lexemes<'l, 'a>) -> Option<Lexemes<'l, 'a>>
     ensures { option_map (λ rest. map placed_of rest.now) result ≡ spec.closing_at (map placed_of lexemes.now) }
 {
-    let rest = mark(lexemes, b";")?;
-    mark(rest, b"}")
+    let rest = mark(lexemes, Mark::Semicolon)?;
+    mark(rest, Mark::CloseBrace)
 }
 
-/// A word that is no keyword.
+/// A name.
 #[tactic(auto, unfolding(crate::specs::Reading::name_at))]
 fn name<'l, 'a>(lexemes: Lexemes<'l, 'a>) -> Option<(&'a [u8], Lexemes<'l, 'a>)>
     ensures { option_map (λ x. (x.0.now, map placed_of x.1.now)) result ≡ spec.name_at (map placed_of lexemes.now) }
@@ -131,12 +133,12 @@ fn name<'l, 'a>(lexemes: Lexemes<'l, 'a>) -> Option<(&'a [u8], Lexemes<'l, 'a>)>
     match lexemes {
         [
             PlacedLexeme {
-                kind: FirstKind::Word,
+                kind: TokenKind::Name,
                 text,
                 ..
             },
             rest @ ..,
-        ] if !is_keyword(text) => Some((text, rest)),
+        ] => Some((text, rest)),
         _ => None,
     }
 }
@@ -146,34 +148,31 @@ fn name<'l, 'a>(lexemes: Lexemes<'l, 'a>) -> Option<(&'a [u8], Lexemes<'l, 'a>)>
 fn result_type<'l, 'a>(lexemes: Lexemes<'l, 'a>) -> Option<(Primitive, Lexemes<'l, 'a>)>
     ensures { option_map (λ x. (x.0, map placed_of x.1.now)) result ≡ spec.type_at (map placed_of lexemes.now) }
 {
-    if let Some(rest) = word(lexemes, b"int") {
+    if let Some(rest) = keyword(lexemes, Keyword::Int) {
         return Some((Primitive::Int, rest));
     }
-    let rest = word(lexemes, b"string")?;
+    let rest = keyword(lexemes, Keyword::String)?;
     Some((Primitive::Str, rest))
 }
 
 /// This keyword.
-fn word<'l, 'a>(lexemes: Lexemes<'l, 'a>, text: &[u8]) -> Option<Lexemes<'l, 'a>>
-    ensures { option_map (λ rest. map placed_of rest.now) result ≡ spec.behind_lexeme (word_lexeme text.now) (map placed_of lexemes.now) }
+#[tactic(auto, unfolding(crate::specs::Reading::behind_lexeme))]
+fn keyword<'l, 'a>(lexemes: Lexemes<'l, 'a>, keyword: Keyword) -> Option<Lexemes<'l, 'a>>
+    ensures { option_map (λ rest. map placed_of rest.now) result ≡ spec.behind_lexeme (keyword_lexeme keyword) (map placed_of lexemes.now) }
 {
-    behind(lexemes, FirstKind::Word, text)
+    match lexemes {
+        [first, rest @ ..] if first.is_keyword(keyword) => Some(rest),
+        _ => None,
+    }
 }
 
 /// This mark.
-fn mark<'l, 'a>(lexemes: Lexemes<'l, 'a>, text: &[u8]) -> Option<Lexemes<'l, 'a>>
-    ensures { option_map (λ rest. map placed_of rest.now) result ≡ spec.behind_lexeme (mark_lexeme text.now) (map placed_of lexemes.now) }
-{
-    behind(lexemes, FirstKind::Mark, text)
-}
-
-/// The lexeme of this kind and text.
 #[tactic(auto, unfolding(crate::specs::Reading::behind_lexeme))]
-fn behind<'l, 'a>(lexemes: Lexemes<'l, 'a>, kind: FirstKind, text: &[u8]) -> Option<Lexemes<'l, 'a>>
-    ensures { option_map (λ rest. map placed_of rest.now) result ≡ spec.behind_lexeme (sort_of kind, text.now) (map placed_of lexemes.now) }
+fn mark<'l, 'a>(lexemes: Lexemes<'l, 'a>, mark: Mark) -> Option<Lexemes<'l, 'a>>
+    ensures { option_map (λ rest. map placed_of rest.now) result ≡ spec.behind_lexeme (mark_lexeme mark) (map placed_of lexemes.now) }
 {
     match lexemes {
-        [first, rest @ ..] if first.kind == kind && first.text == text => Some(rest),
+        [first, rest @ ..] if first.is_mark(mark) => Some(rest),
         _ => None,
     }
 }

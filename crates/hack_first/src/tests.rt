@@ -56,6 +56,14 @@ fn reads_units_with_the_places_of_their_values(rt: HostRuntime) -> Result<(), Fa
             "ints int If() 2:1\n",
         ),
         (
+            "<?hh // first\nfunction f(): int {\treturn /* hex */ 0xFF; }\r\n",
+            "f int int 2:38\n",
+        ),
+        (
+            "function f(): int { return \"a\\\"b\"; } function g(): string { return \"\"; }",
+            "f int string 1:28\ng string string 1:68\n",
+        ),
+        (
             "function f(): int { return 1; } function f(): int { return f(); }",
             "f int int 1:28\nf int f() 1:60\n",
         ),
@@ -84,7 +92,9 @@ fn refuses_what_is_no_list_of_units(rt: HostRuntime) -> Result<(), Fail> {
         "function f(): int { return f()(); }",
         "function f(): int { return 08; }",
         "function f(): int { return; }",
-        "function f(): int {\treturn 1; }",
+        "function f(): int { return 1.0; }",
+        "function f(): int { return $g; }",
+        "function f(): int { return 1; } /* open",
         "function f(): int { return 9223372036854775808; }",
     ];
     for body in cases {

@@ -1,6 +1,6 @@
 // First units, as they lie in the text of their file.
 
-use hack_tree::Place;
+use hack_types::Place;
 
 /// A type that a first unit may name (docs/language.md, First units).
 #[derive(Clone, Copy, Debug, PartialEq, Eq)]

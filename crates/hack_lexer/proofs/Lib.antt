@@ -1,4 +1,8 @@
-pub mod Ints
-pub mod Forms
-pub mod Tokens
+pub mod Passes
+pub mod Numbers
+pub mod Texts
+pub mod Classes
+pub mod Longest
+pub mod Values
 pub mod Cuts
+pub mod Sorts

@@ -1,2 +1,5 @@
-pub mod FirstTokens
+pub mod Bytes
 pub mod Forms
+pub mod Kinds
+pub mod Scan
+pub mod Tokens

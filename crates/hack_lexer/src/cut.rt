@@ -1,52 +1,50 @@
-// The cut of a first script's body into tokens.
-ghost use Rattle.std.specs.Prelude.{◌≡◌, ◌≤◌, List, length, IfOk, IfSome, IfNone};
-ghost use Rattle.hack_lexer.specs.declared.first_token.FirstKind.{FirstKind};
-ghost use Rattle.hack_lexer.specs.declared.first_token.FirstToken.{FirstToken};
-ghost use Rattle.hack_lexer.specs.FirstTokens.{AreTokens, IsTokenAt};
+// The cut of a file's bytes into tokens.
+ghost use Rattle.std.specs.Prelude.{◌≡◌, ◌<◌, ◌≤◌, ◌^◌, ℕ, List, length, IfOk, IfErr};
+ghost use Rattle.std.specs.List.{AllByRecursion};
+ghost use Rattle.hack_types.specs.declared.place.Place.{Place};
+ghost use Rattle.hack_lexer.specs.declared.token.Token.{Token};
+ghost use Rattle.hack_lexer.specs.Tokens.{AreTokens, IsFault, IsStop};
 
-use crate::FirstToken;
-use crate::byte_class::{ByteClass, run_len};
-use crate::form::longest_form;
-use crate::range::is_in_range;
-use hack_io::NoMemory;
+use crate::place::place_of;
+use crate::step::{Step, step_at};
+use crate::{LexStop, Token, tables};
 use std::alloc::Global;
 
-/// The token that stands at the index.
-fn token_at(bytes: &[u8], at: usize) -> Option<FirstToken>
-    requires inside { at ≤ length bytes.now }
-    requires size { length bytes.now ≤ 65536 }
-    ensures found { IfSome result (λ t. (t.at ≡ at) × (kind : FirstKind) × IsTokenAt bytes.now kind t) }
-    ensures none { IfNone result ((kind : FirstKind) (t : FirstToken) → t.at ≡ at → IsTokenAt bytes.now kind t → ⊥) }
+/// The tokens of the bytes, in order, every token the longest at its place; a fault where the bytes have one, the first
+/// (docs/language.md, Tokens).
+pub fn tokens(alloc: Global, bytes: &[u8]) -> Result<Vec<Token>, LexStop>
+    requires { length bytes.now ≤ 2 ^ 20 }
+    ensures tokens { IfOk result (λ tokens. AreTokens bytes.now tokens.items) }
+    ensures kinds { IfOk result (λ tokens. AllByRecursion (λ t. t.sort < 121) tokens.items) }
+    ensures fault { IfErr result (IsStop bytes.now) }
 {
-    let rest = &bytes[at..];
-    let (kind, len) = longest_form(rest)?;
-    if !is_in_range(kind, &rest[..len]) {
-        return None;
+    let keywords = tables::keywords();
+    let marks = tables::marks();
+    let mut tokens = Vec::new(alloc);
+    let mut at = 0;
+    while at < bytes.len() {
+        match step_at(&keywords, &marks, bytes, at) {
+            Step::Blank(len) => at += len,
+            Step::Taken(token) => {
+                if tokens.push(token).is_err() {
+                    return Err(LexStop::NoMemory);
+                }
+                at += token.len as usize;
+            }
+            Step::Fault(code) => {
+                return Err(LexStop::Fault {
+                    place: place_of(bytes, at),
+                    code,
+                });
+            }
+        }
     }
-    Some(FirstToken {
-        sort: kind.sort(),
-        at: at as u32,
-        len: len as u32,
-    })
+    Ok(tokens)
 }
 
-/// The tokens of the bytes, in order, or `None` where the bytes aren't blanks and tokens of a first script, every
-/// token the longest at its place (docs/language.md, Tokens).
-pub fn first_tokens(alloc: Global, bytes: &[u8]) -> Result<Option<Vec<FirstToken>>, NoMemory>
-    requires { length bytes.now ≤ 65536 }
-    ensures found { IfOk result (λ found. IfSome found (λ tokens. AreTokens bytes.now tokens.items)) }
-    ensures only { IfOk result (λ found. IfSome found (λ tokens. (other : List FirstToken) → AreTokens bytes.now other → tokens.items ≡ other)) }
-    ensures none { IfOk result (λ found. IfNone found ((tokens : List FirstToken) → AreTokens bytes.now tokens → ⊥)) }
-{
-    let mut tokens = Vec::new(alloc);
-    let mut at = run_len(bytes, ByteClass::Blank);
-    while at < bytes.len() {
-        let Some(token) = token_at(bytes, at) else {
-            return Ok(None);
-        };
-        tokens.push(token)?;
-        at += token.len as usize;
-        at += run_len(&bytes[at..], ByteClass::Blank);
-    }
-    Ok(Some(tokens))
-}
+/// Bytes have one cut into tokens at most, and no cut where they have a fault, and one first fault at most.
+pub fn one_answer()
+    ensures tokens { (bytes : List ℕ) (one other : List Token) → AreTokens bytes one → AreTokens bytes other → one ≡ other }
+    ensures tokens_or_fault { (bytes : List ℕ) (tokens : List Token) (place : Place) (code : ℕ) → AreTokens bytes tokens → IsFault bytes place code → ⊥ }
+    ensures fault { (bytes : List ℕ) (one other : Place) (code second : ℕ) → IsFault bytes one code → IsFault bytes other second → (one ≡ other) × (code ≡ second) }
+{}

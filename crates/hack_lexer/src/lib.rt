@@ -1,13 +1,21 @@
 //! Cuts the bytes of a file into blanks and tokens.
 #![tactic(auto)]
 
-mod byte_class;
+mod blank;
 mod cut;
-mod first_token;
-mod form;
+mod kind;
+mod number;
+mod place;
 mod range;
+mod run;
+mod scan;
+mod step;
+mod tables;
 #[cfg(test)]
 mod tests;
+mod text;
+mod token;
 
-pub use cut::first_tokens;
-pub use first_token::{FirstKind, FirstToken};
+pub use cut::{one_answer, tokens};
+pub use kind::{Keyword, Mark, TokenKind};
+pub use token::{LexStop, Token};

@@ -13,3 +13,4 @@ pub mod Lines
 pub mod Filling
 pub mod Replying
 pub mod Outcomes
+pub mod Unique

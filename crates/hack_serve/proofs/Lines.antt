@@ -3,8 +3,8 @@ use Rattle.std.proofs.Common.{◌≡◌, ℕ, List, [], ◌∷◌, ◌++◌, ap,
 use Rattle.std.specs.Prelude.{codes}
 use Rattle.std.specs.Fmt.{decimal}
 use Rattle.hack_base.specs.Script.{newline}
-use Rattle.hack_tree.specs.declared.diag.FileDiag.{FileDiag}
-use Rattle.hack_tree.specs.Report.{diag_line}
+use Rattle.hack_types.specs.declared.diag.FileDiag.{FileDiag}
+use Rattle.hack_types.specs.Report.{diag_line}
 
 -- the file, the place with the code, the text and LF were appended one after another
 pub line_pushed : (d : FileDiag) (start one two three end place : List ℕ)

@@ -8,8 +8,8 @@ use Rattle.std.proofs.lemmas.List.{drop_more, drop_all}
 use Rattle.hack_base.specs.Files.{Files, Put, after}
 use Rattle.hack_base.specs.Script as script
 use Rattle.hack_base.specs.Replies.{Reply, Edited, Reported, Replies, reply_text, replies_text}
-use Rattle.hack_tree.specs.declared.diag.FileDiag.{FileDiag}
-use Rattle.hack_tree.specs.Report.{diag_line}
+use Rattle.hack_types.specs.declared.diag.FileDiag.{FileDiag}
+use Rattle.hack_types.specs.Report.{diag_line}
 use Rattle.hack_first.specs.declared.unit.FirstUnit.{FirstUnit}
 use Rattle.hack_serve.specs.declared.steps.Step.{Step}
 use Rattle.hack_serve.specs.declared.steps.Step.TheVariants as step

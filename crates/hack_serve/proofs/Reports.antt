@@ -13,10 +13,10 @@ use Rattle.std.specs.declared.cmp.Ordering.TheVariants.{Less, Equal}
 use Rattle.std.proofs.lemmas.List.Elements.{Contains-append_left, Contains-append_right, Contains-append_cases, recursion_from_All}
 use Rattle.std.proofs.lemmas.Map.Keys.{Less-from_sorted}
 use Rattle.hack_base.specs.Files.{Files, byte_order}
-use Rattle.hack_tree.specs.declared.diag.Diag.{Diag}
-use Rattle.hack_tree.specs.declared.diag.FileDiag.{FileDiag}
-use Rattle.hack_tree.specs.Places.{place_of}
-use Rattle.hack_tree.specs.Report.{place_order, report_order, IsReport}
+use Rattle.hack_types.specs.declared.diag.Diag.{Diag}
+use Rattle.hack_types.specs.declared.diag.FileDiag.{FileDiag}
+use Rattle.hack_types.specs.Places.{place_of}
+use Rattle.hack_types.specs.Report.{place_order, report_order, IsReport}
 use Rattle.hack_first.specs.declared.unit.Primitive.{Primitive}
 use Rattle.hack_first.specs.declared.unit.Primitive.TheVariants.{Int, Str}
 use Rattle.hack_first.specs.declared.unit.FirstUnit.{FirstUnit}

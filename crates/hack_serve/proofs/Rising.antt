@@ -4,15 +4,13 @@ use Rattle.std.specs.Ordering.{nat_cmp, ordering_then}
 use Rattle.std.specs.Cmp.{nat_cmp_is}
 use Rattle.std.specs.declared.cmp.Ordering.TheVariants.{Less, Equal}
 use Rattle.std.proofs.lemmas.List.{take-take}
-use Rattle.hack_lexer.specs.declared.first_token.FirstKind.{FirstKind}
-use Rattle.hack_lexer.specs.declared.first_token.FirstKind.TheVariants.{Word, Int, Quoted, Mark}
-use Rattle.hack_lexer.specs.declared.first_token.FirstToken.{FirstToken}
-use Rattle.hack_lexer.specs.FirstTokens.{HasForm, IsTokenAt, IsCut}
-use Rattle.hack_tree.specs.declared.place.Place.{Place}
-use Rattle.hack_tree.specs.Places.{behind, behind_all, place_of}
-use Rattle.hack_tree.specs.Report.{place_order}
+use Rattle.hack_lexer.specs.declared.token.Token.{Token}
+use Rattle.hack_types.specs.declared.place.Place.{Place}
+use Rattle.hack_types.specs.Places.{behind, behind_all, place_of}
+use Rattle.hack_types.specs.Report.{place_order}
 use Rattle.hack_first.specs.Functions.{Function}
 use Rattle.hack_first.specs.FirstUnits.{IsUnit, AreUnits, IsFirstBody, BeginsAt}
+use Rattle.hack_first.proofs.CallerLemmas.{StandInOrder, in_order}
 
 -- ---- places
 
@@ -71,28 +69,12 @@ places_rise bytes p q later inside = before-order _ _ (before-places bytes p q l
 
 -- ---- tokens
 
-no_empty : (kind : FirstKind) → HasForm kind [] → ⊥
-no_empty Word h = h
-no_empty Int h = h
-no_empty Quoted h = h
-no_empty Mark h = h
-
--- a token has a byte
-token_len : (bytes : List ℕ) (kind : FirstKind) (t : FirstToken) → IsTokenAt bytes kind t → 0 < t.len
-token_len bytes kind t is = by t.len refl
-  where
-    by : (n : ℕ) → t.len ≡ n → 0 < t.len
-    by zero e =
-        let none : t.at + t.len - t.at ≡ 0 = omega arith in
-        absurd (no_empty kind (subst (λ k. HasForm kind (take k (drop t.at bytes))) none is.form))
-    by (suc n) e = omega arith
-
--- the tokens behind some of a cut are a cut from a later index on
-cut_behind : (bytes : List ℕ) (from : ℕ) (front rest : List FirstToken) → IsCut bytes from (front ++ rest) → (later : ℕ) × (from ≤ later) × IsCut bytes later rest
-cut_behind bytes from [] rest cut = (from, omega arith, cut)
-cut_behind bytes from (t ∷ front) rest cut =
-    let behind = cut_behind bytes (t.at + t.len) front rest cut.4 in
-    (behind.0, omega (arith, cut.0, behind.1), behind.2)
+-- the tokens behind some that stand in order do so from a later index on
+order_behind : (bytes : List ℕ) (from : ℕ) (front rest : List Token) → StandInOrder bytes from (front ++ rest) → (later : ℕ) × (from ≤ later) × StandInOrder bytes later rest
+order_behind bytes from [] rest order = (from, omega arith, order)
+order_behind bytes from (t ∷ front) rest order =
+    let behind = order_behind bytes (t.at + t.len) front rest order.3 in
+    (behind.0, omega (arith, order.0, behind.1), behind.2)
 
 -- ---- functions
 
@@ -105,33 +87,32 @@ stand_sooner : (bytes : List ℕ) (from to : ℕ) (fs : List Function) → to �
 stand_sooner bytes from to [] le stand = tt
 stand_sooner bytes from to (f ∷ fs) le stand = (stand.0, omega (arith, stand.1), stand.2, stand.3, stand.4)
 
--- where a unit's tokens are cut, its finding stands inside, and what follows is cut behind it
-unit_stands : (bytes : List ℕ) (from : ℕ) (front rest : List FirstToken) (f : Function) → IsUnit bytes front f → IsCut bytes from (front ++ rest)
-    → (at : ℕ) × (from ≤ at) × (at < length bytes) × (f.at ≡ place_of bytes at) × ((later : ℕ) × (at < later) × IsCut bytes later rest)
+-- where a unit's tokens stand in order, its finding stands inside, and what follows stands behind it
+unit_stands : (bytes : List ℕ) (from : ℕ) (front rest : List Token) (f : Function) → IsUnit bytes front f → StandInOrder bytes from (front ++ rest)
+    → (at : ℕ) × (from ≤ at) × (at < length bytes) × (f.at ≡ place_of bytes at) × ((later : ℕ) × (at < later) × StandInOrder bytes later rest)
 unit_stands bytes from front rest f unit cut = by unit.value unit.placed refl
   where
-    by : (value : List FirstToken) → BeginsAt bytes value f.at → unit.value ≡ value
-        → (at : ℕ) × (from ≤ at) × (at < length bytes) × (f.at ≡ place_of bytes at) × ((later : ℕ) × (at < later) × IsCut bytes later rest)
+    by : (value : List Token) → BeginsAt bytes value f.at → unit.value ≡ value
+        → (at : ℕ) × (from ≤ at) × (at < length bytes) × (f.at ≡ place_of bytes at) × ((later : ℕ) × (at < later) × StandInOrder bytes later rest)
     by [] placed e = absurd placed
     by (t ∷ ts) placed e =
         let whole : front ++ rest ≡ unit.front ++ (t ∷ (ts ++ (unit.back ++ rest))) =
         ap (λ tokens. tokens ++ rest) (unit.parts ∙ ap (λ value. unit.front ++ value ++ unit.back) e) ∙ regroup unit.front t ts unit.back rest in
-        let inside = cut_behind bytes from unit.front (t ∷ (ts ++ (unit.back ++ rest))) (subst (IsCut bytes from) whole cut) in
+        let inside = order_behind bytes from unit.front (t ∷ (ts ++ (unit.back ++ rest))) (subst (StandInOrder bytes from) whole cut) in
         let token = inside.2 in
-        let has_len = token_len bytes token.2 t token.3 in
-        let behind = cut_behind bytes (t.at + t.len) (ts ++ unit.back) rest (subst (IsCut bytes (t.at + t.len)) (sym (append_assoc ts unit.back rest)) token.4) in
-        (t.at, omega (arith, inside.1, token.0), omega (arith, token.3.inside, has_len), placed, (behind.0, omega (arith, behind.1, has_len), behind.2))
+        let behind = order_behind bytes (t.at + t.len) (ts ++ unit.back) rest (subst (StandInOrder bytes (t.at + t.len)) (sym (append_assoc ts unit.back rest)) token.3) in
+        (t.at, omega (arith, inside.1, token.0), omega (arith, token.1, token.2), placed, (behind.0, omega (arith, behind.1, token.1), behind.2))
       where
-        regroup : (a : List FirstToken) (t : FirstToken) (b c d : List FirstToken) → (a ++ (t ∷ b) ++ c) ++ d ≡ a ++ (t ∷ (b ++ (c ++ d)))
+        regroup : (a : List Token) (t : Token) (b c d : List Token) → (a ++ (t ∷ b) ++ c) ++ d ≡ a ++ (t ∷ (b ++ (c ++ d)))
         regroup a t b c d = simp append_assoc
 
-units_stand : (bytes : List ℕ) (from : ℕ) (tokens : List FirstToken) (fs : List Function) → IsCut bytes from tokens → AreUnits bytes tokens fs → StandFrom bytes from fs
+units_stand : (bytes : List ℕ) (from : ℕ) (tokens : List Token) (fs : List Function) → StandInOrder bytes from tokens → AreUnits bytes tokens fs → StandFrom bytes from fs
 units_stand bytes from tokens [] cut units = tt
 units_stand bytes from tokens (f ∷ fs) cut units =
-    let stands = unit_stands bytes from units.0 units.1 f units.3 (subst (IsCut bytes from) units.2 cut) in
+    let stands = unit_stands bytes from units.0 units.1 f units.3 (subst (StandInOrder bytes from) units.2 cut) in
     let behind = stands.4 in
     (stands.0, stands.1, stands.2, stands.3, stand_sooner bytes behind.0 (stands.0 + 1) fs (omega (arith, behind.1)) (units_stand bytes behind.0 units.1 fs behind.2 units.4))
 
 -- the functions of a text stand at rising indices of it
 pub functions_stand : (bytes : List ℕ) (fs : List Function) → IsFirstBody bytes fs → StandFrom bytes 0 fs
-functions_stand bytes fs body = units_stand bytes 0 body.0 fs body.1 body.2
+functions_stand bytes fs body = units_stand bytes 0 body.0 fs (in_order bytes body.0 body.1) body.2

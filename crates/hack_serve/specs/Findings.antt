@@ -3,9 +3,9 @@
 use Rattle.std.specs.Prelude.{◌≡◌, ◌≢◌, ◌⊎◌, ℕ, List, ◌++◌, Some, slice_get, codes}
 use Rattle.std.specs.FinMap.{get}
 use Rattle.hack_base.specs.Files.{Files}
-use Rattle.hack_tree.specs.declared.diag.Diag.{Diag}
-use Rattle.hack_tree.specs.declared.diag.FileDiag.{FileDiag}
-use Rattle.hack_tree.specs.Report.{IsReport}
+use Rattle.hack_types.specs.declared.diag.Diag.{Diag}
+use Rattle.hack_types.specs.declared.diag.FileDiag.{FileDiag}
+use Rattle.hack_types.specs.Report.{IsReport}
 use Rattle.hack_first.specs.declared.unit.Primitive.{Primitive}
 use Rattle.hack_first.specs.Functions.{Function, Value, OfType, OfCall, type_text}
 use Rattle.hack_first.specs.FirstUnits.{IsFirstBody}

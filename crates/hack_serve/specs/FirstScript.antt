@@ -6,8 +6,8 @@ use Rattle.hack_base.specs.Files.{Files, Put, after}
 use Rattle.hack_base.specs.Script.{Command, File, Check}
 use Rattle.hack_serve.specs.Commands.{IsScript}
 use Rattle.hack_base.specs.Replies.{Reply, Replies, replies_text}
-use Rattle.hack_tree.specs.declared.diag.FileDiag.{FileDiag}
-use Rattle.hack_tree.specs.Report.{diag_line}
+use Rattle.hack_types.specs.declared.diag.FileDiag.{FileDiag}
+use Rattle.hack_types.specs.Report.{diag_line}
 use Rattle.hack_first.specs.Functions.{Function}
 use Rattle.hack_first.specs.FirstUnits.{IsFirstBody}
 use Rattle.hack_serve.specs.Findings.{DeclaresOnce, IsFirstReport}

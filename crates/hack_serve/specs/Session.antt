@@ -4,8 +4,8 @@ use Rattle.std.specs.Io.KnownBytes.{Appends}
 use Rattle.hack_base.specs.Files.{Files, Put, after}
 use Rattle.hack_base.specs.Script.{Command, File, Check}
 use Rattle.hack_base.specs.Replies.{Reply, Edited, Reported, reply_text}
-use Rattle.hack_tree.specs.declared.diag.FileDiag.{FileDiag}
-use Rattle.hack_tree.specs.Report.{diag_line}
+use Rattle.hack_types.specs.declared.diag.FileDiag.{FileDiag}
+use Rattle.hack_types.specs.Report.{diag_line}
 use Rattle.hack_serve.specs.declared.status.Status.{Status}
 use Rattle.hack_serve.specs.declared.status.Status.TheVariants as status
 use Rattle.hack_serve.specs.Findings.{IsFirstReport}

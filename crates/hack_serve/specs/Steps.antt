@@ -8,8 +8,8 @@ use Rattle.std.specs.BTreeMap as tree
 use Rattle.std.specs.FinMap as finite
 use Rattle.hack_base.specs.Files.{Files, byte_order}
 use Rattle.hack_base.specs.Script as script
-use Rattle.hack_tree.specs.declared.diag.Diag.{Diag}
-use Rattle.hack_tree.specs.declared.diag.FileDiag.{FileDiag}
+use Rattle.hack_types.specs.declared.diag.Diag.{Diag}
+use Rattle.hack_types.specs.declared.diag.FileDiag.{FileDiag}
 use Rattle.hack_first.specs.declared.unit.Primitive.{Primitive}
 use Rattle.hack_first.specs.declared.unit.Primitive.TheVariants.{Int, Str}
 use Rattle.hack_first.specs.declared.unit.FirstUnit.{FirstUnit}

@@ -13,7 +13,7 @@ use crate::steps::Step;
 use hack_base::{Bytes, Name};
 use hack_first::{FirstUnit, Primitive, Returned};
 use hack_io::NoMemory;
-use hack_tree::{Diag, FileDiag};
+use hack_types::{Diag, FileDiag};
 use std::alloc::Global;
 use std::collections::BTreeMap;
 

@@ -10,7 +10,7 @@ mod session;
 mod status;
 mod steps;
 
-pub use run::{hack_main, reply_to};
+pub use run::{hack_main, one_answer, reply_to};
 pub use status::Status;
 
 #[cfg(test)]

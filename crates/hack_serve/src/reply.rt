@@ -2,11 +2,11 @@
 ghost use Rattle.std.specs.Prelude.{◌≡◌, ◌+◌, ◌++◌, IfOk, OnOk, codes};
 ghost use Rattle.std.specs.Fmt.{decimal};
 ghost use Rattle.hack_base.specs.Replies.{Reply, Edited, Reported, reply_text};
-ghost use Rattle.hack_tree.specs.declared.diag.FileDiag.{FileDiag};
-ghost use Rattle.hack_tree.specs.Report.{diag_line};
+ghost use Rattle.hack_types.specs.declared.diag.FileDiag.{FileDiag};
+ghost use Rattle.hack_types.specs.Report.{diag_line};
 
 use hack_io::NoMemory;
-use hack_tree::{FileDiag, Place};
+use hack_types::{FileDiag, Place};
 use std::alloc::Global;
 
 /// The reply to the edit of this number (docs/script.md, Replies).

@@ -1,9 +1,12 @@
 // The top call: what the program does, from its words to its status.
-ghost use Rattle.std.specs.Prelude.{◌≡◌, ◌<◌, ◌↔◌, ◌⊎◌, List, length, IfOk, IfSome, IfNone, Some};
+ghost use Rattle.std.specs.Prelude.{◌≡◌, ◌<◌, ◌↔◌, ◌⊎◌, ℕ, List, length, IfOk, IfSome, IfNone, Some};
 ghost use Rattle.std.specs.Io.KnownBytes.{Appends};
 ghost use Rattle.hack_base.specs.Script as script;
 ghost use Rattle.hack_io.specs.Causes.{Rose};
-ghost use Rattle.hack_serve.specs.FirstScript.{IsFirstScript};
+ghost use Rattle.hack_base.specs.Files.{Files};
+ghost use Rattle.hack_types.specs.declared.diag.FileDiag.{FileDiag};
+ghost use Rattle.hack_serve.specs.Findings.{IsFirstReport};
+ghost use Rattle.hack_serve.specs.FirstScript.{IsFirstScript, AreReplies};
 ghost use Rattle.hack_serve.specs.Outcome.{Answers, AnswersTo, HasRead, IsRefused, IsAnswered, IsCutShort, IsBrokenOff, TakesInput, Wrote};
 ghost use Rattle.hack_serve.specs.Steps.{AreSteps};
 
@@ -77,6 +80,12 @@ pub fn reply_to<K: Sink>(alloc: Global, input: &[u8], sink: &mut K) -> Status
         Err(NoMemory) => Status::NoMemory,
     }
 }
+
+/// Files have one report, and commands have one text of replies: what `hack_main` says of its output leaves no choice.
+pub fn one_answer()
+    ensures report { (files : Files) (one other : List FileDiag) → IsFirstReport files one → IsFirstReport files other → one ≡ other }
+    ensures replies { (commands : List script.Command) (one other : List ℕ) → AreReplies commands one → AreReplies commands other → one ≡ other }
+{}
 
 /// The steps of a first script, or `None` where the bytes are none (docs/script.md, First scripts).
 fn first_steps(alloc: Global, bytes: &[u8]) -> Result<Option<Vec<Step<'_>>>, NoMemory>

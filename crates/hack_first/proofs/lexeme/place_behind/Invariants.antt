@@ -1,5 +1,5 @@
 use Rattle.std.proofs.Common.{◌≡◌, ◌≤◌, ◌+◌, drop}
-use Rattle.hack_tree.specs.Places.{behind_all}
+use Rattle.hack_types.specs.Places.{behind_all}
 use Rattle.hack_first.proofs.lexeme.place_behind.Given as goal
 
 abbrev pub invariant-loop-byte : goal.invariant-loop-byte

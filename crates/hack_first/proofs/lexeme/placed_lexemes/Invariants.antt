@@ -1,5 +1,5 @@
 use Rattle.std.proofs.Common.{◌≡◌, ◌≤◌, ◌+◌, length, map, take}
-use Rattle.hack_tree.specs.Places.{place_of}
+use Rattle.hack_types.specs.Places.{place_of}
 use Rattle.hack_first.specs.Reading.{placed, placed_of}
 use Rattle.hack_first.proofs.Behind.{IsAhead}
 use Rattle.hack_first.proofs.lexeme.placed_lexemes.Given as goal

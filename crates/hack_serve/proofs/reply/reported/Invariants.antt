@@ -1,7 +1,7 @@
 use Rattle.std.proofs.Common.{◌≡◌, ◌++◌, drop}
 use Rattle.std.specs.List.{flat_map}
 use Rattle.hack_base.specs.Replies.{Reported, reply_text}
-use Rattle.hack_tree.specs.Report.{diag_line}
+use Rattle.hack_types.specs.Report.{diag_line}
 use Rattle.hack_serve.proofs.reply.reported.Given as goal
 
 abbrev pub invariant-loop-diag : goal.invariant-loop-diag

@@ -1,0 +1,9 @@
+//! Tables of cases: words and the value of each, found by binary search.
+#![tactic(auto)]
+
+mod cases;
+mod macros;
+#[cfg(test)]
+mod tests;
+
+pub use cases::Cases;

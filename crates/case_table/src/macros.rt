@@ -1,0 +1,12 @@
+// Tables written case by case.
+
+/// The table of these cases, as `Cases::new` makes it: `cases!("break" => 3, "case" => 4)`. It goes inside a body.
+#[macro_export]
+macro_rules! cases {
+    () => {
+        $crate::Cases::new("", [])
+    };
+    ($first:literal => $value:expr $(, $key:literal => $other:expr)* $(,)?) => {
+        $crate::Cases::new(concat!($first $(, " ", $key)*), [$value $(, $other)*])
+    };
+}

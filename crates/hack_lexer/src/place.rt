@@ -1,0 +1,28 @@
+// The place of an index.
+ghost use Rattle.std.specs.Prelude.{◌≡◌, ◌≤◌, ◌<◌, ◌^◌, length};
+ghost use Rattle.hack_types.specs.Places.{place_of};
+
+use hack_types::Place;
+
+// The place of the byte at this index of a file.
+pub(crate) fn place_of(bytes: &[u8], index: usize) -> Place
+    requires inside { index ≤ length bytes.now }
+    requires small { length bytes.now < 2 ^ 31 }
+    ensures { result ≡ place_of bytes.now index }
+{
+    let mut place = Place::START;
+    for b in &bytes[..index] {
+        place = if *b == b'\n' {
+            Place {
+                line: place.line + 1,
+                column: 1,
+            }
+        } else {
+            Place {
+                line: place.line,
+                column: place.column + 1,
+            }
+        };
+    }
+    place
+}
