@@ -1,7 +1,6 @@
 // Reads the bytes of a file as a list of first units.
 ghost use Rattle.std.specs.Prelude.{◌≡◌, ◌≤◌, List, [], length, map, IfOk, IfSome, IfNone};
 ghost use Rattle.std.specs.Option.{option_map};
-ghost use Rattle.hack_lexer.specs.Kinds.{sort_of_kind};
 ghost use Rattle.hack_first.specs.Functions.{Function, OfCall, function_of, value_of};
 ghost use Rattle.hack_first.specs.FirstUnits.{IsFirstBody, keyword as keyword_lexeme, mark as mark_lexeme};
 ghost use Rattle.hack_first.specs.Reading as spec;
