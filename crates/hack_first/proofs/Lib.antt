@@ -1,5 +1,3 @@
-pub mod CallerLemmas
-pub mod Numbers
 pub mod Behind
 pub mod Lists
 pub mod Taken

@@ -1,14 +1,11 @@
 // The tokens of a file with their texts and places.
-ghost use Rattle.std.specs.Prelude.{◌≡◌, ◌==◌, ◌≤◌, ◌<◌, ◌+◌, ◌^◌, length, map, IfOk};
-ghost use Rattle.hack_lexer.specs.Kinds.{sort_of_kind};
+ghost use Rattle.std.specs.Prelude.{◌≡◌, ◌≤◌, ◌<◌, ◌+◌, ◌^◌, length, map, IfOk};
 ghost use Rattle.hack_lexer.specs.Tokens.{AreTokens};
-ghost use Rattle.hack_lexer.specs.declared.kind.TokenKind.TheVariants as kind;
 ghost use Rattle.std.specs.List.{AllByRecursion};
-ghost use Rattle.hack_types.specs.Places as places;
 ghost use Rattle.hack_first.specs.Reading.{placed, placed_of};
 
 use hack_io::NoMemory;
-use hack_lexer::{Keyword, Mark, Token, TokenKind};
+use hack_lexer::{Token, TokenKind};
 use hack_types::Place;
 use std::alloc::Global;
 
@@ -21,28 +18,6 @@ pub(crate) struct PlacedLexeme<'a> {
     pub text: &'a [u8],
     /// The place of its first byte.
     pub at: Place,
-}
-
-impl<'a> PlacedLexeme<'a> {
-    /// Whether it is this mark.
-    pub(crate) fn is_mark(&self, mark: Mark) -> bool
-        ensures { result ≡ (sort_of_kind self.now.kind == sort_of_kind (kind.Mark mark)) }
-    {
-        match self.kind {
-            TokenKind::Mark(found) => found == mark,
-            _ => false,
-        }
-    }
-
-    /// Whether it is this keyword.
-    pub(crate) fn is_keyword(&self, keyword: Keyword) -> bool
-        ensures { result ≡ (sort_of_kind self.now.kind == sort_of_kind (kind.Keyword keyword)) }
-    {
-        match self.kind {
-            TokenKind::Keyword(found) => found == keyword,
-            _ => false,
-        }
-    }
 }
 
 /// The tokens of the file, each with its text and its place.
@@ -62,7 +37,7 @@ pub(crate) fn placed_lexemes<'a>(
     for token in tokens {
         let begin = token.at as usize;
         let end = begin + token.len as usize;
-        at = place_behind(at, &body[passed..begin]);
+        at = at.behind(&body[passed..begin]);
         passed = begin;
         // The sort of each token is a kind's.
         let kind = token.kind().unwrap();
@@ -73,29 +48,4 @@ pub(crate) fn placed_lexemes<'a>(
         })?;
     }
     Ok(lexemes)
-}
-
-/// The place behind the bytes, of which the first stands at `at` (docs/script.md, Places).
-fn place_behind(at: Place, bytes: &[u8]) -> Place
-    requires line { at.line + length bytes.now < 2 ^ 32 }
-    requires column { at.column + length bytes.now < 2 ^ 32 }
-    ensures place { result ≡ places.behind_all at bytes.now }
-    ensures line { result.line ≤ at.line + length bytes.now }
-    ensures column { result.column ≤ at.column + length bytes.now }
-{
-    let mut at = at;
-    for byte in bytes {
-        at = if *byte == b'\n' {
-            Place {
-                line: at.line + 1,
-                column: 1,
-            }
-        } else {
-            Place {
-                line: at.line,
-                column: at.column + 1,
-            }
-        };
-    }
-    at
 }

@@ -160,7 +160,7 @@ fn keyword<'l, 'a>(lexemes: Lexemes<'l, 'a>, keyword: Keyword) -> Option<Lexemes
     ensures { option_map (λ rest. map placed_of rest.now) result ≡ spec.behind_lexeme (keyword_lexeme keyword) (map placed_of lexemes.now) }
 {
     match lexemes {
-        [first, rest @ ..] if first.is_keyword(keyword) => Some(rest),
+        [first, rest @ ..] if first.kind.is_keyword(keyword) => Some(rest),
         _ => None,
     }
 }
@@ -171,7 +171,7 @@ fn mark<'l, 'a>(lexemes: Lexemes<'l, 'a>, mark: Mark) -> Option<Lexemes<'l, 'a>>
     ensures { option_map (λ rest. map placed_of rest.now) result ≡ spec.behind_lexeme (mark_lexeme mark) (map placed_of lexemes.now) }
 {
     match lexemes {
-        [first, rest @ ..] if first.is_mark(mark) => Some(rest),
+        [first, rest @ ..] if first.kind.is_mark(mark) => Some(rest),
         _ => None,
     }
 }

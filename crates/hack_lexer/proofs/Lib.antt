@@ -6,3 +6,6 @@ pub mod Longest
 pub mod Values
 pub mod Cuts
 pub mod Sorts
+pub mod KindNumbers
+pub mod InOrder
+pub mod SameKind

@@ -1,6 +1,7 @@
 // What the sort of a token means.
-ghost use Rattle.std.specs.Prelude.{◌≡◌, ◌≤◌, ◌+◌, MatchOption};
+ghost use Rattle.std.specs.Prelude.{◌≡◌, ◌==◌, ◌≤◌, ◌+◌, MatchOption};
 ghost use Rattle.hack_lexer.specs.Kinds.{number_of_mark, number_of_keyword, sort_of_kind};
+ghost use Rattle.hack_lexer.specs.declared.kind.TokenKind.TheVariants as kinds;
 
 /// A mark.
 #[derive(Clone, Copy, Debug, PartialEq, Eq)]
@@ -261,6 +262,28 @@ pub enum TokenKind {
     Mark(Mark),
     /// A keyword.
     Keyword(Keyword),
+}
+
+impl TokenKind {
+    /// Whether it is this mark.
+    pub fn is_mark(self, mark: Mark) -> bool
+        ensures { result ≡ (sort_of_kind self == sort_of_kind (kinds.Mark mark)) }
+    {
+        match self {
+            TokenKind::Mark(found) => found == mark,
+            _ => false,
+        }
+    }
+
+    /// Whether it is this keyword.
+    pub fn is_keyword(self, keyword: Keyword) -> bool
+        ensures { result ≡ (sort_of_kind self == sort_of_kind (kinds.Keyword keyword)) }
+    {
+        match self {
+            TokenKind::Keyword(found) => found == keyword,
+            _ => false,
+        }
+    }
 }
 
 // The kind of this sort, and nothing where the sort is no kind's number.

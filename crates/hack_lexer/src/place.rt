@@ -10,19 +10,5 @@ pub(crate) fn place_of(bytes: &[u8], index: usize) -> Place
     requires small { length bytes.now < 2 ^ 31 }
     ensures { result ≡ place_of bytes.now index }
 {
-    let mut place = Place::START;
-    for b in &bytes[..index] {
-        place = if *b == b'\n' {
-            Place {
-                line: place.line + 1,
-                column: 1,
-            }
-        } else {
-            Place {
-                line: place.line,
-                column: place.column + 1,
-            }
-        };
-    }
-    place
+    Place::START.behind(&bytes[..index])
 }

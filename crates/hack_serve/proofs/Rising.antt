@@ -10,7 +10,7 @@ use Rattle.hack_types.specs.Places.{behind, behind_all, place_of}
 use Rattle.hack_types.specs.Report.{place_order}
 use Rattle.hack_first.specs.Functions.{Function}
 use Rattle.hack_first.specs.FirstUnits.{IsUnit, AreUnits, IsFirstBody, BeginsAt}
-use Rattle.hack_first.proofs.CallerLemmas.{StandInOrder, in_order}
+use Rattle.hack_lexer.proofs.InOrder.{StandInOrder, in_order}
 
 -- ---- places
 

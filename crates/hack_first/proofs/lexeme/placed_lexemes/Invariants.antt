@@ -1,7 +1,7 @@
 use Rattle.std.proofs.Common.{◌≡◌, ◌≤◌, ◌+◌, length, map, take}
 use Rattle.hack_types.specs.Places.{place_of}
 use Rattle.hack_first.specs.Reading.{placed, placed_of}
-use Rattle.hack_first.proofs.Behind.{IsAhead}
+use Rattle.hack_lexer.proofs.InOrder.{IsAhead}
 use Rattle.hack_first.proofs.lexeme.placed_lexemes.Given as goal
 
 abbrev pub invariant-loop-token : goal.invariant-loop-token
