@@ -1,0 +1,12 @@
+pub mod ExpressionsFollow
+pub mod Follows
+pub mod Alone
+pub mod Levels
+pub mod ListsFollow
+pub mod OperandsFollow
+pub mod OperatorsFollow
+pub mod Pieces
+pub mod Runs
+pub mod SuffixesFollow
+pub mod Turns
+pub mod TypesFollow

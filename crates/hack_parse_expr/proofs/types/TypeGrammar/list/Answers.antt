@@ -1,0 +1,36 @@
+use Rattle.std.proofs.Common.{rules, arith}
+use Rattle.std.proofs.lemmas.Grind.{common_steps}
+use Rattle.hack_parse_expr.specs.Parsers.{list_from}
+use Rattle.hack_parse_expr.specs.Types.{begins_type, written_type}
+use Rattle.hack_parse_expr.proofs.Turns.{one_more, no_more}
+use Rattle.hack_parse_expr.proofs.types.TypeGrammar.list.Goals as goal
+
+pub returns-then-not-begins_type : goal.returns-then-not-begins_type
+unfolding list_from
+returns-then-not-begins_type g c =
+    let e = one_more (λ n. list_from begins_type (written_type c.args.self.now.depth) n c.loop-turn.found c.loop-turn.cursor) _ c.loop-turn._turn c.loop-turn-test.true c.loop-turn.invariant in
+    first_of (search rules, grind (arith, common_steps))
+
+pub returns-in_err-nested-2 : goal.returns-in_err-nested-2
+unfolding list_from
+returns-in_err-nested-2 g c =
+    let e = one_more (λ n. list_from begins_type (written_type c.args.self.now.depth) n c.loop-turn.found c.loop-turn.cursor) _ c.loop-turn._turn c.loop-turn-test.true c.loop-turn.invariant in
+    first_of (search rules, grind (arith, common_steps))
+
+pub returns-then-not-eat-2 : goal.returns-then-not-eat-2
+unfolding list_from
+returns-then-not-eat-2 g c =
+    let e = one_more (λ n. list_from begins_type (written_type c.args.self.now.depth) n c.loop-turn.found c.loop-turn.cursor) _ c.loop-turn._turn c.loop-turn-test.true c.loop-turn.invariant in
+    first_of (search rules, grind (arith, common_steps))
+
+pub loop-turn-preserved : goal.loop-turn-preserved
+unfolding list_from
+loop-turn-preserved g c =
+    let e = one_more (λ n. list_from begins_type (written_type c.args.self.now.depth) n c.loop-turn.found c.loop-turn.cursor) _ c.loop-turn._turn c.loop-turn-test.true c.loop-turn.invariant in
+    first_of (search rules, grind (arith, common_steps))
+
+pub returns : goal.returns
+unfolding list_from
+returns g c =
+    let e = no_more (λ n. list_from begins_type (written_type c.args.self.now.depth) n c.loop-turn.found c.loop-turn.cursor) _ c.loop-turn._turn c.loop-turn-test.false c.loop-turn.invariant in
+    first_of (search rules, grind (arith, common_steps))

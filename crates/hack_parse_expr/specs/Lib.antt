@@ -1,0 +1,11 @@
+pub mod Cursor
+pub mod Decides
+pub mod Expressions
+pub mod Input
+pub mod Kinds
+pub mod Parsers
+pub mod Rows
+pub mod Run
+pub mod Symbols
+pub mod Types
+pub mod Nesting
