@@ -1,0 +1,7 @@
+pub mod DeclarationsFollow
+pub mod MembersFollow
+pub mod SignaturesFollow
+pub mod Lexed
+pub mod FilesFollow
+pub mod Nameless
+pub mod OneTree

@@ -1,0 +1,13 @@
+//! Reads declarations and files.
+#![tactic(auto)]
+
+mod declaration;
+mod file;
+mod lexemes;
+mod member;
+mod signature;
+#[cfg(test)]
+mod tests;
+
+pub use file::{absolute, one_tree, parse_file};
+pub use hack_parse_expr::ParseStop;
