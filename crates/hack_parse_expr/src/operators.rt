@@ -292,6 +292,7 @@ impl<F: Fn(Global, &mut Cursor<'_>, usize, Nested) -> Result<Expr, ParseStop>> G
         Ok(found)
     }
 
+    /// An operand with its suffixes.
     #[tactic(auto, unfolding(crate::specs::Expressions::postfix))]
     pub fn postfix(&self, cursor: &mut Cursor<'_>) -> Result<Expr, ParseStop>
         requires { Nests self.now.depth (F.pre self.now.nested) (F.post self.now.nested) }

@@ -1,5 +1,6 @@
 // Statements: what is one, and where a text that is none has its fault.
-// Every answer was worked out by hand from docs/language.md, Grammar, and none was taken from the program.
+// Every answer was worked out by hand from the rules of the grammar, and then held against two other programs; none was taken
+// from this one (docs/definitions.md, Trees).
 use super::shown;
 use std::alloc::AllocError;
 

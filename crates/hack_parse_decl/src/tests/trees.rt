@@ -1,6 +1,6 @@
 // Whole trees.
-// Each was worked out by hand from docs/language.md, Grammar, and none was taken from the program. The names of a text have
-// ids from 7 on, in the order of its tokens.
+// Each was written by hand from docs/language.md, Grammar, by the author of the definition, and none was taken from the program.
+// The names of a text have ids from 7 on, in the order of its tokens.
 use super::{file_of, parsed};
 use hack_tree::UnitTree;
 use std::alloc::{AllocError, Global};
