@@ -1,106 +1,101 @@
--- What is read from the lexemes of some tokens are the functions that the tokens are.
-use Rattle.std.proofs.Common.{◌≡◌, ℕ, List, [], ◌∷◌, ◌++◌, map, Option, Some, None, Result, Ok, Err, refl, sym, ap, ◌∙◌, append_assoc, subst}
-use Rattle.std.specs.Prelude.{IfOk, IfSome, IfNone}
-use Rattle.std.proofs.lemmas.List.{map-append}
-use Rattle.std.proofs.lemmas.Simd.{map-map}
+-- A body is a list of first units exactly where it has a tree whose declarations all are.
+use Rattle.std.proofs.Common.{◌≡◌, ◌⊎◌, inl, inr, ℕ, ◌+◌, ◌^◌, ◌<◌, List, [], map, length, Option, Some, None, Result, Ok, Err, sym, ap, ◌∙◌, subst, arith}
+use Rattle.hack_types.specs.declared.place.Place.{Place}
 use Rattle.hack_lexer.specs.declared.token.Token.{Token}
 use Rattle.hack_lexer.specs.Tokens.{AreTokens}
-use Rattle.hack_types.specs.declared.place.Place.{Place}
+use Rattle.hack_lexer.proofs.Cuts.{one_list, no_both}
+use Rattle.hack_tree.specs.declared.declaration.FileTree.{FileTree}
+use Rattle.hack_parse_expr.specs.declared.lexeme.Lexeme.{Lexeme}
+use Rattle.hack_parse_expr.specs.declared.stop.ParseStop.{ParseStop}
+use Rattle.hack_parse_expr.specs.declared.stop.ParseStop.TheVariants.{Fault}
+use Rattle.hack_parse_expr.specs.Input.{Input}
+use Rattle.hack_parse_expr.specs.Run.{Fails}
+use Rattle.hack_parse_expr.specs.Parsers.{at_front}
+use Rattle.hack_parse_expr.specs.Symbols.{Declared, File, rule}
+use Rattle.hack_parse_decl.specs.Lexemes.{AreLexemes}
+use Rattle.hack_parse_decl.specs.Declarations.{declarations}
+use Rattle.hack_parse_decl.specs.Files.{IsFileTree, IsFileFault, IsLeftOver, end_of}
+use Rattle.hack_parse_decl.proofs.DeclarationsFollow.{files_stand, files_fail}
 use Rattle.hack_first.specs.Functions.{Function}
-use Rattle.hack_first.specs.FirstUnits.{lexeme, IsSpelled, BeginsAt, IsUnit, AreUnits, IsFirstBody}
-use Rattle.hack_first.specs.Reading.{Placed, placed, unit_at, Reads}
-use Rattle.hack_first.proofs.Lists.{map_parts}
-use Rattle.hack_first.proofs.Taken.{spelled, StandsAt, SpellsUnit, TakesUnit, unit_takes}
-use Rattle.hack_first.proofs.Again.{unit_again}
-use Rattle.hack_first.proofs.Turns.{Reads-unique}
+use Rattle.hack_first.specs.FirstUnits.{AreUnits, IsFirstBody}
+use Rattle.hack_first.specs.FirstTrees.{first_functions, unit_functions}
+use Rattle.hack_first.proofs.FirstLaw.{declared_are_units, units_are_first}
+use Rattle.hack_first.proofs.TokensRead.{units_are_declared}
 
-spelled_is : (bytes : List ℕ) (tokens : List Token) → spelled (map (placed bytes) tokens) ≡ map (lexeme bytes) tokens
-spelled_is bytes tokens = map-map (λ (p : Placed). p.0) (placed bytes) tokens
+-- the declarations of a tree, read by the parser
+record IsRead (names : List (List ℕ)) (bytes : List ℕ) (tree : FileTree) : Type 0 where
+  tokens : List Token
+  lexemes : List Lexeme
+  cut : AreTokens bytes tokens
+  lexed : AreLexemes names bytes tokens lexemes
+  declared : List Declared
+  rest : Input
+  read : declarations (at_front lexemes (end_of bytes)) ≡ Ok (declared, rest)
+  all : rest.left ≡ []
+  units : unit_functions names tree.units ≡ first_functions names declared
 
-stands : (bytes : List ℕ) (tokens : List Token) (at : Place) → BeginsAt bytes tokens at → StandsAt (map (placed bytes) tokens) at
-stands bytes [] at h = h
-stands bytes (t ∷ tokens) at h = h
-
-begins : (bytes : List ℕ) (tokens : List Token) (at : Place) → StandsAt (map (placed bytes) tokens) at → BeginsAt bytes tokens at
-begins bytes [] at h = h
-begins bytes (t ∷ tokens) at h = h
-
--- tokens whose lexemes are a function's are that function's
-is_unit : (bytes : List ℕ) (tokens front value back : List Token) (f : Function) (a b c : List Placed) → tokens ≡ front ++ value ++ back →
-    map (placed bytes) front ≡ a → map (placed bytes) value ≡ b → map (placed bytes) back ≡ c → SpellsUnit a b c f → IsUnit bytes tokens f
-is_unit bytes tokens front value back f a b c parts at-front at-value at-back u = record {
-  front = front;
-  value = value;
-  back = back;
-  parts = parts;
-  opens = sym (spelled_is bytes front) ∙ ap spelled at-front ∙ u.opens;
-  returns = subst (IsSpelled f.value) (sym (ap spelled at-value) ∙ spelled_is bytes value) u.returns;
-  placed = begins bytes value f.at (subst (λ v. StandsAt v f.at) (sym at-value) u.placed);
-  closes = sym (spelled_is bytes back) ∙ ap spelled at-back ∙ u.closes;
+is_read : (before names : List (List ℕ)) (bytes : List ℕ) (tree : FileTree) → IsFileTree before names bytes tree → IsRead names bytes tree
+is_read before names bytes tree h = record {
+  tokens = h.input.tokens;
+  lexemes = h.lexemes;
+  cut = h.input.cut;
+  lexed = h.input.lexed;
+  declared = h.declared;
+  rest = h.rest;
+  read = (files_stand h.lexemes (end_of bytes) h.declared h.rest).0 h.stands;
+  all = h.all;
+  units = ap (unit_functions names) h.units ∙ units_are_first names bytes h.declared;
 }
 
--- and the other way round
-spells_unit : (bytes : List ℕ) (tokens : List Token) (f : Function) (u : IsUnit bytes tokens f) → SpellsUnit (map (placed bytes) u.front) (map (placed bytes) u.value) (map (placed bytes) u.back) f
-spells_unit bytes tokens f u = record {
-  opens = spelled_is bytes u.front ∙ u.opens;
-  returns = subst (IsSpelled f.value) (sym (spelled_is bytes u.value)) u.returns;
-  placed = stands bytes u.value f.at u.placed;
-  closes = spelled_is bytes u.back ∙ u.closes;
-}
+-- what the parser reads of the lexemes of a body of first units
+record IsReadBody (names : List (List ℕ)) (lexemes : List Lexeme) (end : Place) (functions : List Function) : Type 0 where
+  declared : List Declared
+  rest : Input
+  read : declarations (at_front lexemes end) ≡ Ok (declared, rest)
+  all : rest.left ≡ []
+  are : first_functions names declared ≡ Some functions
 
--- what is taken from the lexemes of some tokens are some of the tokens
-tokens_taken : (bytes : List ℕ) (tokens : List Token) (f : Function) (rest : List Placed) → TakesUnit (map (placed bytes) tokens) f rest →
-    (front : List Token) × (behind : List Token) × (tokens ≡ front ++ behind) × IsUnit bytes front f × (map (placed bytes) behind ≡ rest)
-tokens_taken bytes tokens f rest u =
-    let a = map_parts (placed bytes) tokens (u.front ++ u.value ++ u.back) rest u.parts in
-    let b = map_parts (placed bytes) a.0 (u.front ++ u.value) u.back a.3 in
-    let c = map_parts (placed bytes) b.0 u.front u.value b.3 in
-    let parts : a.0 ≡ c.0 ++ c.1 ++ b.1 = b.2 ∙ ap (λ t. t ++ b.1) c.2 in
-    (a.0, a.1, a.2, is_unit bytes a.0 c.0 c.1 b.1 f u.front u.value u.back parts c.3 c.4 b.4 u.spells, a.4)
+read_body : (names : List (List ℕ)) (bytes : List ℕ) (tokens : List Token) (lexemes : List Lexeme) (end : Place) (functions : List Function) → length bytes + 1 < 2 ^ 32 → AreTokens bytes tokens
+    → AreLexemes names bytes tokens lexemes → IsFirstBody bytes functions → IsReadBody names lexemes end functions
+read_body names bytes tokens lexemes end functions short cut lexed body =
+    let same : body.0 ≡ tokens = one_list bytes body.0 tokens body.1 cut in
+    let r = units_are_declared names bytes tokens lexemes end functions short cut lexed (subst (λ ts. AreUnits bytes ts functions) same body.2) in
+    record { declared = r.0; rest = r.1; read = r.2; all = r.3; are = r.4 }
 
-unit_again_at : (bytes : List ℕ) (tokens behind : List Token) (f : Function) → IsUnit bytes tokens f → unit_at (map (placed bytes) (tokens ++ behind)) ≡ Some (f, map (placed bytes) behind)
-unit_again_at bytes tokens behind f u =
-    let regrouped : map (placed bytes) ((u.front ++ u.value ++ u.back) ++ behind) ≡ map (placed bytes) u.front ++ (map (placed bytes) u.value ++ (map (placed bytes) u.back ++ map (placed bytes) behind)) = simp (map-append, append_assoc) in
-    ap (λ t. unit_at (map (placed bytes) (t ++ behind))) u.parts ∙ ap unit_at regrouped
-    ∙ unit_again (map (placed bytes) u.front) (map (placed bytes) u.value) (map (placed bytes) u.back) (map (placed bytes) behind) f (spells_unit bytes tokens f u)
+ok_is : {A B : Type 0} (a b : A) (i j : Input) → ◌≡◌ {A = Result (A × Input) B} (Ok (a, i)) (Ok (b, j)) → (a ≡ b) × (i ≡ j)
+ok_is {A = A} a b i j e =
+    let pair : ◌≡◌ {A = A × Input} (a, i) (b, j) = cc in
+    (ap (λ (p : A × Input). p.0) pair, ap (λ (p : A × Input). p.1) pair)
 
-pub reads_from_units : (bytes : List ℕ) (tokens : List Token) (functions : List Function) → AreUnits bytes tokens functions → Reads (map (placed bytes) tokens) functions []
-reads_from_units bytes tokens [] h = ap (map (placed bytes)) h
-reads_from_units bytes tokens (f ∷ functions) h =
-    (map (placed bytes) h.1, ap (λ t. unit_at (map (placed bytes) t)) h.2 ∙ unit_again_at bytes h.0 h.1 f h.3, reads_from_units bytes h.1 functions h.4)
+-- a body of first units has a tree of these functions
+pub tree_of_body : (before names : List (List ℕ)) (bytes : List ℕ) (tree : FileTree) (functions : List Function) → length bytes + 1 < 2 ^ 32 → IsFileTree before names bytes tree → IsFirstBody bytes functions
+    → unit_functions names tree.units ≡ Some functions
+tree_of_body before names bytes tree functions short h body =
+    let r = is_read before names bytes tree h in
+    let b = read_body names bytes r.tokens r.lexemes (end_of bytes) functions short r.cut r.lexed body in
+    let same = ok_is b.declared r.declared b.rest r.rest (sym b.read ∙ r.read) in
+    r.units ∙ ap (first_functions names) (sym same.0) ∙ b.are
 
-none_from_map : (bytes : List ℕ) (tokens : List Token) → map (placed bytes) tokens ≡ [] → tokens ≡ []
-none_from_map bytes [] e = refl
-none_from_map bytes (t ∷ tokens) e = absurd cc
+-- a tree of these functions is that of a body of first units
+pub body_of_tree : (before names : List (List ℕ)) (bytes : List ℕ) (tree : FileTree) (functions : List Function) → length bytes + 1 < 2 ^ 32 → IsFileTree before names bytes tree
+    → unit_functions names tree.units ≡ Some functions → IsFirstBody bytes functions
+body_of_tree before names bytes tree functions short h are =
+    let r = is_read before names bytes tree h in
+    (r.tokens, r.cut, declared_are_units names bytes r.tokens r.lexemes (end_of bytes) functions r.declared r.rest short r.cut r.lexed r.read r.all (sym r.units ∙ are))
 
-pub units_from_reads : (bytes : List ℕ) (tokens : List Token) (functions : List Function) → Reads (map (placed bytes) tokens) functions [] → AreUnits bytes tokens functions
-units_from_reads bytes tokens [] h = none_from_map bytes tokens h
-units_from_reads bytes tokens (f ∷ functions) h =
-    let u = tokens_taken bytes tokens f h.0 (unit_takes (map (placed bytes) tokens) f h.0 h.1) in
-    (u.0, u.1, u.2, u.3, units_from_reads bytes u.1 functions (subst (λ b. Reads b functions []) (sym u.4) h.2))
+no_err : {A B : Type 0} (a : A) (stop : B) → ◌≡◌ {A = Result A B} (Ok a) (Err stop) → ⊥
+no_err a stop e = absurd cc
 
--- ---- what the call answers
+-- what the parser reads whole has no fault
+not_faulty : (names : List (List ℕ)) (lexemes : List Lexeme) (end : Place) (functions : List Function) (stop : ParseStop) → IsReadBody names lexemes end functions
+    → Fails (rule File) (at_front lexemes end) stop ⊎ IsLeftOver (at_front lexemes end) stop → ⊥
+not_faulty names lexemes end functions stop b (inl fails) = no_err (b.declared, b.rest) stop (sym b.read ∙ (files_fail lexemes end stop).0 fails)
+not_faulty names lexemes end functions stop b (inr left) =
+    let same = ok_is b.declared left.declared b.rest left.rest (sym b.read ∙ (files_stand lexemes end left.declared left.rest).0 left.stands) in
+    left.more (ap (λ (i : Input). i.left) (sym same.1) ∙ b.all)
 
--- a list of functions that has these bytes is read from the lexemes
-read_again : (bytes : List ℕ) (tokens : List Token) (lexemes : List Placed) → lexemes ≡ map (placed bytes) tokens → ((other : List Token) → AreTokens bytes other → tokens ≡ other) →
-    (functions : List Function) → IsFirstBody bytes functions → Reads lexemes functions []
-read_again bytes tokens lexemes same only functions h =
-    subst (λ l. Reads l functions []) (sym same) (reads_from_units bytes tokens functions (subst (λ t. AreUnits bytes t functions) (sym (only h.0 h.1)) h.2))
-
-module _ {U E : Type 0} (view : U → List Function) (bytes : List ℕ) (tokens : List Token) (lexemes : List Placed) (same : lexemes ≡ map (placed bytes) tokens) where
-  pub all_found : (r : Result (Option U) E) → AreTokens bytes tokens → IfOk r (λ found. IfSome found (λ u. Reads lexemes (view u) [])) → IfOk r (λ found. IfSome found (λ u. IsFirstBody bytes (view u)))
-  all_found (Ok (Some u)) cut h = (tokens, cut, units_from_reads bytes tokens (view u) (subst (λ l. Reads l (view u) []) same h))
-  all_found (Ok None) cut h = tt
-  all_found (Err e) cut h = tt
-
-  pub no_other : (r : Result (Option U) E) → ((other : List Token) → AreTokens bytes other → tokens ≡ other) → IfOk r (λ found. IfSome found (λ u. Reads lexemes (view u) [])) →
-      IfOk r (λ found. IfSome found (λ u. (other : List Function) → IsFirstBody bytes other → view u ≡ other))
-  no_other (Ok (Some u)) only h = λ other body. Reads-unique (view u) other lexemes h (read_again bytes tokens lexemes same only other body)
-  no_other (Ok None) only h = tt
-  no_other (Err e) only h = tt
-
-  pub none_found : (r : Result (Option U) E) → ((other : List Token) → AreTokens bytes other → tokens ≡ other) → IfOk r (λ found. IfNone found ((functions : List Function) → Reads lexemes functions [] → ⊥)) →
-      IfOk r (λ found. IfNone found ((functions : List Function) → IsFirstBody bytes functions → ⊥))
-  none_found (Ok (Some u)) only h = tt
-  none_found (Ok None) only h = λ functions body. h functions (read_again bytes tokens lexemes same only functions body)
-  none_found (Err e) only h = tt
+-- a text with a fault is no body of first units
+pub no_body : (bytes : List ℕ) (place : Place) (code : ℕ) (functions : List Function) → length bytes + 1 < 2 ^ 32 → IsFileFault bytes place code → IsFirstBody bytes functions → ⊥
+no_body bytes place code functions short (inl lexical) body = no_both bytes body.0 place code body.1 lexical
+no_body bytes place code functions short (inr g) body =
+    not_faulty g.names g.lexemes (end_of bytes) functions (Fault place code) (read_body g.names bytes g.input.tokens g.lexemes (end_of bytes) functions short g.input.cut g.input.lexed body) g.fault

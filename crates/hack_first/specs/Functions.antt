@@ -25,10 +25,10 @@ pub record Function : Type 0 where
 
 abbrev pub value_of : Returned → Value
 value_of (Literal primitive) = OfType primitive
-value_of (Call name) = OfCall name.now
+value_of (Call name) = OfCall name
 
 abbrev pub function_of : FirstUnit → Function
-function_of u = record { name = u.name.now; result = u.result; value = value_of u.returned; at = u.at }
+function_of u = record { name = u.name; result = u.result; value = value_of u.returned; at = u.at }
 
 -- the keyword of a type, which is its text
 abbrev pub type_text : Primitive → List ℕ

@@ -1,3 +1,3 @@
-pub mod Functions
+pub mod FirstTrees
 pub mod FirstUnits
-pub mod Reading
+pub mod Functions

@@ -10,17 +10,17 @@ fn type_name(primitive: Primitive) -> &'static [u8] {
 }
 
 /// A line for each unit: its name, its result, the type of its literal or the call, and the place of that.
-fn shown(alloc: Global, units: &[FirstUnit<'_>]) -> Result<Vec<u8>, Fail> {
+fn shown(alloc: Global, units: &[FirstUnit]) -> Result<Vec<u8>, Fail> {
     let mut text = Vec::new(alloc);
     for unit in units {
-        text.extend_from_slice(unit.name)?;
+        text.extend_from_slice(unit.name.as_slice())?;
         text.push(b' ')?;
         text.extend_from_slice(type_name(unit.result))?;
         text.push(b' ')?;
-        match unit.returned {
-            Returned::Literal(primitive) => text.extend_from_slice(type_name(primitive))?,
+        match &unit.returned {
+            Returned::Literal(primitive) => text.extend_from_slice(type_name(*primitive))?,
             Returned::Call(name) => {
-                text.extend_from_slice(name)?;
+                text.extend_from_slice(name.as_slice())?;
                 text.extend_from_slice(b"()")?;
             }
         }

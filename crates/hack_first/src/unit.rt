@@ -1,5 +1,6 @@
-// First units, as they lie in the text of their file.
+// First units.
 
+use hack_base::Bytes;
 use hack_types::Place;
 
 /// A type that a first unit may name (docs/language.md, First units).
@@ -12,23 +13,23 @@ pub enum Primitive {
 }
 
 /// What a first unit returns.
-#[derive(Clone, Copy, Debug)]
-pub enum Returned<'a> {
+#[derive(Debug, Drop)]
+pub enum Returned {
     /// A literal of this type.
     Literal(Primitive),
     /// A call of the function of this name.
-    Call(&'a [u8]),
+    Call(Bytes),
 }
 
 /// A first unit: a function without parameters whose body is one return.
-#[derive(Clone, Copy, Debug)]
-pub struct FirstUnit<'a> {
+#[derive(Debug, Drop)]
+pub struct FirstUnit {
     /// The function's name.
-    pub name: &'a [u8],
+    pub name: Bytes,
     /// The type that it states.
     pub result: Primitive,
     /// What it returns.
-    pub returned: Returned<'a>,
+    pub returned: Returned,
     /// The place of the returned expression in the file.
     pub at: Place,
 }

@@ -20,8 +20,8 @@ use std::collections::BTreeMap;
 /// The functions of each file by its name, and the result of each function by its name.
 #[derive(Drop)]
 pub(crate) struct Files<'s, 'a> {
-    units: BTreeMap<Name<'a>, &'s [FirstUnit<'a>]>,
-    results: BTreeMap<Name<'a>, Primitive>,
+    units: BTreeMap<Name<'a>, &'s [FirstUnit]>,
+    results: BTreeMap<Name<'s>, Primitive>,
 }
 
 impl<'s, 'a> Files<'s, 'a> {
@@ -37,11 +37,7 @@ impl<'s, 'a> Files<'s, 'a> {
 
     /// Puts a file of this name with these functions, and answers whether every name is declared once then.
     /// After `false` the tables stand for nothing.
-    pub(crate) fn put(
-        &mut self,
-        name: &'a [u8],
-        units: &'s [FirstUnit<'a>],
-    ) -> Result<bool, NoMemory>
+    pub(crate) fn put(&mut self, name: &'a [u8], units: &'s [FirstUnit]) -> Result<bool, NoMemory>
         ensures once { IfOk result (λ once. (files : model.Files) (body : List ℕ) → Stands self.old.units self.old.results files
             → IsBody body (functions_of units.now)
             → MatchBool once (Stands self.new.units self.new.results (model.after files (model.Put name.now body)))
@@ -84,7 +80,7 @@ impl<'s, 'a> Files<'s, 'a> {
         &self,
         alloc: Global,
         file: &Name<'a>,
-        units: &[FirstUnit<'a>],
+        units: &'s [FirstUnit],
         report: &mut Vec<FileDiag>,
     ) -> Result<(), NoMemory>
         ensures { OnOk result (report.new.items
@@ -100,15 +96,15 @@ impl<'s, 'a> Files<'s, 'a> {
     }
 
     /// The finding in a function, if there is one.
-    fn finding(&self, alloc: Global, unit: &FirstUnit<'a>) -> Result<Option<Diag>, NoMemory>
+    fn finding(&self, alloc: Global, unit: &'s FirstUnit) -> Result<Option<Diag>, NoMemory>
         ensures { IfOk result (λ found. found
             ≡ finding_for (function_of unit.now) (type_found self.now.results (value_of unit.now.returned))) }
     {
-        let found = match unit.returned {
-            Returned::Literal(primitive) => primitive,
-            Returned::Call(name) => match self.results.get(&Name::new(name)) {
+        let found = match &unit.returned {
+            Returned::Literal(primitive) => *primitive,
+            Returned::Call(name) => match self.results.get(&Name::new(name.as_slice())) {
                 Some(result) => *result,
-                None => return Ok(Some(unbound(alloc, unit, name)?)),
+                None => return Ok(Some(unbound(alloc, unit, name.as_slice())?)),
             },
         };
         if found == unit.result {
@@ -119,7 +115,7 @@ impl<'s, 'a> Files<'s, 'a> {
 }
 
 /// 4001: the type of what is returned isn't the result that the function states.
-fn mismatch(alloc: Global, unit: &FirstUnit<'_>, found: Primitive) -> Result<Diag, NoMemory>
+fn mismatch(alloc: Global, unit: &FirstUnit, found: Primitive) -> Result<Diag, NoMemory>
     ensures { IfOk result (λ diag. diag ≡ mismatch (function_of unit.now) found) }
 {
     let expected = type_text(unit.result);
@@ -133,7 +129,7 @@ fn mismatch(alloc: Global, unit: &FirstUnit<'_>, found: Primitive) -> Result<Dia
 }
 
 /// 4002: no file declares the called function.
-fn unbound(alloc: Global, unit: &FirstUnit<'_>, name: &[u8]) -> Result<Diag, NoMemory>
+fn unbound(alloc: Global, unit: &FirstUnit, name: &[u8]) -> Result<Diag, NoMemory>
     ensures { IfOk result (λ diag. diag ≡ unbound (function_of unit.now) name.now) }
 {
     let mut text = Vec::from_slice(alloc, b"unbound function ")?;
@@ -156,25 +152,25 @@ fn type_text(primitive: Primitive) -> &'static str
 }
 
 /// Takes the functions' names out of the table.
-fn forget<'a>(results: &mut BTreeMap<Name<'a>, Primitive>, units: &[FirstUnit<'a>])
+fn forget<'s>(results: &mut BTreeMap<Name<'s>, Primitive>, units: &'s [FirstUnit])
     ensures { IsChanged no_result (functions_of units.now) results.old results.new }
 {
     for unit in units {
-        results.remove(&Name::new(unit.name));
+        results.remove(&Name::new(unit.name.as_slice()));
     }
 }
 
 /// Puts the functions' names into the table, up to the first that stands there.
-fn declare<'a>(
-    results: &mut BTreeMap<Name<'a>, Primitive>,
-    units: &[FirstUnit<'a>],
+fn declare<'s>(
+    results: &mut BTreeMap<Name<'s>, Primitive>,
+    units: &'s [FirstUnit],
 ) -> Result<bool, NoMemory>
     ensures fresh { IfOk result (λ fresh. OnTrue fresh (AreFresh (functions_of units.now) results.old)) }
     ensures changed { IfOk result (λ fresh. OnTrue fresh (IsChanged its_result (functions_of units.now) results.old results.new)) }
     ensures taken { IfOk result (λ fresh. OnFalse fresh (IsTaken (functions_of units.now) results.old)) }
 {
     for unit in units {
-        let before = results.insert(Name::new(unit.name), unit.result)?;
+        let before = results.insert(Name::new(unit.name.as_slice()), unit.result)?;
         if before.is_some() {
             return Ok(false);
         }

@@ -14,7 +14,7 @@ use std::alloc::Global;
 #[derive(Debug, Drop)]
 pub(crate) enum Step<'a> {
     /// Keep these functions as the file's of this name.
-    Put(&'a [u8], Vec<FirstUnit<'a>>),
+    Put(&'a [u8], Vec<FirstUnit>),
     /// Report on the files.
     Report,
 }

@@ -1,38 +1,33 @@
-use Rattle.std.proofs.Common.{◌≡◌, List, map, ap, subst, ◌∙◌}
-use Rattle.hack_lexer.specs.declared.token.Token.{Token}
-use Rattle.hack_lexer.specs.declared.token.LexStop.TheVariants.{Fault}
-use Rattle.hack_lexer.specs.Tokens.{AreTokens, IsStop}
-use Rattle.hack_first.specs.Functions.{function_of}
-use Rattle.hack_first.specs.Reading.{placed, placed_of}
-use Rattle.hack_lexer.proofs.Cuts.{one_list, no_both}
-use Rattle.hack_first.proofs.Bodies.{all_found, no_other, none_found}
+use Rattle.std.proofs.Common.{◌≡◌, ◌+◌, ◌<◌, ◌^◌, length, ap, ◌∙◌, arith}
+use Rattle.hack_types.proofs.NameLemmas.{length-fixed_names}
+use Rattle.hack_first.proofs.Answered.{found_is, only_is, none_is_none}
+use Rattle.hack_first.proofs.Bodies.{no_body}
 use Rattle.hack_first.proofs.parse.first_units.Goals as goal
 
-pub returns-in_ok-placed_lexemes-in-Ok-clause-found :
-    goal.returns-in_ok-placed_lexemes-in-Ok-clause-found
-returns-in_ok-placed_lexemes-in-Ok-clause-found c =
-    let cut : AreTokens c.args.body.now c.in-Ok.tokens.items = rw c.in-Ok.is at c.tokens.ensures.tokens in
-    let same : map placed_of c.deref-in-Ok.result.now ≡ map (placed c.args.body.now) c.in-Ok.tokens.items =
-    ap (map placed_of) c.deref-in-Ok.ensures.value ∙ c.in_ok-placed_lexemes-in-Ok.ensures ∙ ap (map (placed c.args.body.now)) c.deref.ensures.value in
-    all_found (λ units. map function_of units.items) _ _ _ same c.units.result cut c.units.ensures.found
+pub parse_file-requires-clause-room : goal.parse_file-requires-clause-room
+parse_file-requires-clause-room c =
+    let few : length c.new-names.result ≡ 7 = ap length c.new-names.ensures ∙ length-fixed_names in
+    omega (arith, c.requires)
 
-pub returns-in_ok-placed_lexemes-in-Ok-clause-only :
-    goal.returns-in_ok-placed_lexemes-in-Ok-clause-only
-returns-in_ok-placed_lexemes-in-Ok-clause-only c =
-    let only : (other : List Token) → AreTokens c.args.body.now other → c.in-Ok.tokens.items ≡ other = λ other. one_list c.args.body.now c.in-Ok.tokens.items other (rw c.in-Ok.is at c.tokens.ensures.tokens) in
-    let same : map placed_of c.deref-in-Ok.result.now ≡ map (placed c.args.body.now) c.in-Ok.tokens.items =
-    ap (map placed_of) c.deref-in-Ok.ensures.value ∙ c.in_ok-placed_lexemes-in-Ok.ensures ∙ ap (map (placed c.args.body.now)) c.deref.ensures.value in
-    no_other (λ units. map function_of units.items) _ _ _ same c.units.result only c.units.ensures.found
+pub returns-in-Ok-clause-found : goal.returns-in-Ok-clause-found
+returns-in-Ok-clause-found c =
+    let short : length c.args.body.now + 1 < 2 ^ 32 = omega (arith, c.requires) in
+    let is = rw c.in-Ok.is at c.parse_file.ensures.tree in
+    found_is _ _ c.args.body.now c.in-Ok.tree short is c.units.result (rw c.as_slice.ensures at c.units.ensures)
 
-pub returns-in_ok-placed_lexemes-in-Ok-clause-none :
-    goal.returns-in_ok-placed_lexemes-in-Ok-clause-none
-returns-in_ok-placed_lexemes-in-Ok-clause-none c =
-    let only : (other : List Token) → AreTokens c.args.body.now other → c.in-Ok.tokens.items ≡ other = λ other. one_list c.args.body.now c.in-Ok.tokens.items other (rw c.in-Ok.is at c.tokens.ensures.tokens) in
-    let same : map placed_of c.deref-in-Ok.result.now ≡ map (placed c.args.body.now) c.in-Ok.tokens.items =
-    ap (map placed_of) c.deref-in-Ok.ensures.value ∙ c.in_ok-placed_lexemes-in-Ok.ensures ∙ ap (map (placed c.args.body.now)) c.deref.ensures.value in
-    none_found (λ units. map function_of units.items) _ _ _ same c.units.result only c.units.ensures.none
+pub returns-in-Ok-clause-only : goal.returns-in-Ok-clause-only
+returns-in-Ok-clause-only c =
+    let short : length c.args.body.now + 1 < 2 ^ 32 = omega (arith, c.requires) in
+    let is = rw c.in-Ok.is at c.parse_file.ensures.tree in
+    only_is _ _ c.args.body.now c.in-Ok.tree short is c.units.result (rw c.as_slice.ensures at c.units.ensures)
+
+pub returns-in-Ok-clause-none : goal.returns-in-Ok-clause-none
+returns-in-Ok-clause-none c =
+    let short : length c.args.body.now + 1 < 2 ^ 32 = omega (arith, c.requires) in
+    let is = rw c.in-Ok.is at c.parse_file.ensures.tree in
+    none_is_none _ _ c.args.body.now c.in-Ok.tree short is c.units.result (rw c.as_slice.ensures at c.units.ensures)
 
 pub returns-in-Err-Fault-clause-none : goal.returns-in-Err-Fault-clause-none
 returns-in-Err-Fault-clause-none c =
-    let fault : IsStop c.args.body.now (Fault c.in-Err-Fault.field-0-0 c.in-Err-Fault.field-0-1) = subst (IsStop c.args.body.now) c.in-Err-Fault.field-0-is c.in-Err-Fault.ensures.fault in
-    λ functions body. no_both c.args.body.now body.0 c.in-Err-Fault.field-0-0 c.in-Err-Fault.field-0-1 body.1 fault
+    let short : length c.args.body.now + 1 < 2 ^ 32 = omega (arith, c.requires) in
+    λ functions body. no_body c.args.body.now c.in-Err-Fault.field-0-0 c.in-Err-Fault.field-0-1 functions short (rw c.in-Err-Fault.field-0-is at c.in-Err-Fault.ensures.fault) body

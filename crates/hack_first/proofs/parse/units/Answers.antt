@@ -1,33 +1,23 @@
-use Rattle.std.proofs.Common.{map, sym, ap, ◌∙◌, arith}
-use Rattle.std.proofs.lemmas.List.{map_push, take_rest}
+use Rattle.std.proofs.Common.{◌≡◌, ◌∙◌, get_or, sym, ap, arith}
+use Rattle.std.specs.Option.{option_map}
+use Rattle.hack_tree.specs.declared.declaration.Unit.{Unit as UnitOf}
 use Rattle.hack_first.specs.Functions.{function_of}
-use Rattle.hack_first.specs.Reading.{placed_of, unit_at}
-use Rattle.hack_first.proofs.Turns.{Reads-push, stuck, read_on, more_left}
+use Rattle.hack_first.specs.FirstTrees.{first_of, unit_functions}
+use Rattle.hack_first.proofs.UnitTrees.{no_front, one_more_unit, no_unit, all_units}
 use Rattle.hack_first.proofs.parse.units.Goals as goal
 
-pub returns-in_default-clause-none : goal.returns-in_default-clause-none
-returns-in_default-clause-none c =
-    let rest = take_rest c.args.lexemes.now c.loop-passed.passed in
-    λ functions. stuck (map function_of c.loop-passed.units.items) functions _ _ c.loop-passed.invariant.read (c.in_default.ensures ∙ ap (λ t. unit_at (map placed_of t)) rest) (more_left c.args.lexemes.now c.loop-passed.passed c.loop-passed-test.true)
+pub loop-unit-init : goal.loop-unit-init
+loop-unit-init c = rw c.new-found.ensures.items (no_front (unit_functions c.args.names.now c.args.units.now))
 
-pub overflow_sub-passed : goal.overflow_sub-passed
-overflow_sub-passed c =
-    let rest = take_rest c.args.lexemes.now c.loop-passed.passed in
-    let on = read_on c.args.lexemes.now c.in-Some.rest.now c.loop-passed.passed (function_of c.in-Some.unit) c.loop-passed.invariant.within (c.in-Some.ensures ∙ ap (λ t. unit_at (map placed_of t)) rest) in
-    omega (arith, on.0)
+pub returns-in-None : goal.returns-in-None
+returns-in-None c =
+    let none = sym (ap (option_map function_of) c.in-None.is) ∙ c.in_ok-first.ensures ∙ ap (λ (u : UnitOf). first_of c.args.names.now u.start u.tree) c.unit-item.is in
+    no_unit c.args.names.now c.args.units.now c.loop-unit.unit-index c.unit-item.result c.loop-unit.found.items c.loop-unit-test.true c.loop-unit.invariant none
 
-pub loop-passed-smaller : goal.loop-passed-smaller
-loop-passed-smaller c =
-    let rest = take_rest c.args.lexemes.now c.loop-passed.passed in
-    let on = read_on c.args.lexemes.now c.in-Some.rest.now c.loop-passed.passed (function_of c.in-Some.unit) c.loop-passed.invariant.within (c.in-Some.ensures ∙ ap (λ t. unit_at (map placed_of t)) rest) in
-    omega (arith, on.0)
+pub loop-unit-preserved : goal.loop-unit-preserved
+loop-unit-preserved c =
+    let some = sym (ap (option_map function_of) c.in-Some.is) ∙ c.in_ok-first.ensures ∙ ap (λ (u : UnitOf). first_of c.args.names.now u.start u.tree) c.unit-item.is in
+    rw c.in_ok-push-in-Some.ensures.items (one_more_unit c.args.names.now c.args.units.now c.loop-unit.unit-index c.unit-item.result c.loop-unit.found.items c.in-Some.first c.loop-unit-test.true c.loop-unit.invariant some)
 
-pub loop-passed-preserved : goal.loop-passed-preserved
-loop-passed-preserved c =
-    let rest = take_rest c.args.lexemes.now c.loop-passed.passed in
-    let e = c.in-Some.ensures ∙ ap (λ t. unit_at (map placed_of t)) rest in
-    let on = read_on c.args.lexemes.now c.in-Some.rest.now c.loop-passed.passed (function_of c.in-Some.unit) c.loop-passed.invariant.within e in
-    record {
-      within = omega arith;
-      read = rw (c.in_ok-push.ensures.items, map_push, on.1) (Reads-push _ _ _ _ (function_of c.in-Some.unit) c.loop-passed.invariant.read (sym e));
-    }
+pub returns : goal.returns
+returns c = all_units c.args.names.now c.args.units.now c.loop-unit.unit-index c.loop-unit.found.items (omega (arith, c.loop-unit-test.false)) c.loop-unit.invariant
