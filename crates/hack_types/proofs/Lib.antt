@@ -1,1 +1,7 @@
+pub mod FieldOrder
 pub mod NameLemmas
+pub mod NamesInTypes
+pub mod NodeLemmas
+pub mod RisingLaws
+pub mod TextLemmas
+pub mod TypeLaws

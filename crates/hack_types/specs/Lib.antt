@@ -1,4 +1,11 @@
+pub mod MembersRise
 pub mod Names
 pub mod NamesInside
+pub mod OptionOf
 pub mod Places
 pub mod Report
+pub mod Rising
+pub mod TypeNodes
+pub mod TypeParts
+pub mod TypeText
+pub mod formers

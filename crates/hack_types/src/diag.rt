@@ -3,8 +3,9 @@
 use crate::Place;
 use hack_base::Bytes;
 
-/// One finding: where it stands, its stable code and its text (docs/language.md, Diagnostics).
-#[derive(Debug, Drop)]
+/// One finding: where it stands, its stable code and its text (docs/language.md, Diagnostics). Findings go by place, code
+/// and text, in this order of the fields (docs/definitions.md, Report).
+#[derive(Debug, PartialEq, Eq, PartialOrd, Ord, Drop)]
 pub struct Diag {
     /// The first byte of what it speaks of.
     pub at: Place,
@@ -14,8 +15,9 @@ pub struct Diag {
     pub text: Bytes,
 }
 
-/// A finding in the file of this name.
-#[derive(Debug, Drop)]
+/// A finding in the file of this name. They go by file, and then as findings do: in the order of a report
+/// (docs/definitions.md, Report).
+#[derive(Debug, PartialEq, Eq, PartialOrd, Ord, Drop)]
 pub struct FileDiag {
     /// The file's name.
     pub file: Bytes,

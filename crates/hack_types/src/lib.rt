@@ -2,15 +2,36 @@
 #![tactic(auto)]
 
 mod diag;
+mod fields;
+mod hack_type;
 mod ids;
 mod names;
 mod no_memory;
 mod place;
+mod rising;
+mod shallow;
+mod signature;
 #[cfg(test)]
 mod tests;
+mod type_copy;
+mod type_nodes;
+mod type_option;
+mod type_same;
+#[cfg(test)]
+mod type_same_tests;
+#[cfg(test)]
+mod type_tests;
+mod type_texts;
 
 pub use diag::{Diag, FileDiag};
+pub use fields::{Field, Fields};
+pub use hack_type::HackType;
 pub use ids::{Kind, NameId, SymbolId};
 pub use names::Names;
 pub use no_memory::NoMemory;
 pub use place::Place;
+pub use rising::{Members, NameSet};
+pub use shallow::{AliasSig, ClassSig, EnumSig, Member, MemberKind, Shallow, Sort, Visibility};
+pub use signature::{Param, Signature, TypeParam, Variance};
+pub use type_option::{into_option, option_of};
+pub use type_texts::type_text;

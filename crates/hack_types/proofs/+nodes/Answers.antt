@@ -1,0 +1,10 @@
+use Rattle.std.proofs.Common.{rules, ap, ◌∙◌}
+use Rattle.hack_types.specs.TypeNodes.{nodes}
+use Rattle.hack_types.proofs.NodeLemmas.{nodes_of_shape}
+use Rattle.hack_types.proofs.+nodes.Goals as goal
+
+pub hack_type::HackType::take_nodes-returns-in-Shape-clause-some :
+    goal.hack_type::HackType::take_nodes-returns-in-Shape-clause-some
+hack_type::HackType::take_nodes-returns-in-Shape-clause-some t c =
+    let all = ap nodes c.in-Shape.is ∙ nodes_of_shape c.in-Shape.fields c.in-Shape.rest in
+    search (rules, all)
