@@ -9,7 +9,6 @@ pub mod Fresh
 pub mod Puts
 pub mod Rising
 pub mod Reports
-pub mod Lines
 pub mod Filling
 pub mod Replying
 pub mod Outcomes
