@@ -1,0 +1,10 @@
+pub mod ChosenMembers
+pub mod FieldIs
+pub mod FieldsNext
+pub mod FirstPositions
+pub mod KeysRise
+pub mod MembersRise
+pub mod OneShallow
+pub mod PutFirst
+pub mod PutMember
+pub mod PutMembers

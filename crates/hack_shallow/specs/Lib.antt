@@ -1,0 +1,9 @@
+pub mod Scope
+pub mod Positions
+pub mod Scopes
+pub mod Resolved
+pub mod Signatures
+pub mod Members
+pub mod Chosen
+pub mod MemberTables
+pub mod Shallow
