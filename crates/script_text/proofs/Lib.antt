@@ -1,0 +1,17 @@
+pub mod Splits
+pub mod Numbers
+pub mod Ranges
+pub mod Takes
+pub mod Scanning
+pub mod Filling
+pub mod NextHeads
+pub mod LineEnds
+pub mod Bodies
+pub mod Heads
+pub mod NextBodies
+pub mod Settled
+pub mod SettledBodies
+pub mod OneScript
+pub mod WholeScripts
+pub mod InTwo
+pub mod Spelling

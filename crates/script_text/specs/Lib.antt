@@ -1,0 +1,10 @@
+pub mod Replies
+pub mod Heads
+pub mod Spelling
+pub mod Script
+pub mod Whole
+pub mod Lines
+pub mod Buffers
+pub mod Reader
+pub mod Reading
+pub mod Ends
