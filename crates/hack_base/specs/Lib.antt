@@ -1,3 +1,2 @@
 pub mod Files
 pub mod Script
-pub mod Replies

@@ -1,9 +1,8 @@
 // The bytes of a report. They are written into a vector, which refuses bytes only where memory runs out.
 ghost use Rattle.std.specs.Prelude.{◌≡◌, ◌++◌, IfOk, OnOk, codes};
 ghost use Rattle.std.specs.Fmt.{decimal};
-ghost use Rattle.hack_base.specs.Replies.{Reported, reply_text};
 ghost use Rattle.hack_types.specs.declared.diag.FileDiag.{FileDiag};
-ghost use Rattle.hack_types.specs.Report.{diag_line};
+ghost use Rattle.hack_types.specs.Report.{diag_line, report_text};
 
 use hack_types::{FileDiag, NoMemory, Place};
 use std::alloc::Global;
@@ -22,7 +21,7 @@ pub fn diag_line(alloc: Global, d: &FileDiag) -> Result<Vec<u8>, NoMemory>
 /// The reply to the check of this number: `check K errors M` and LF, where M is the length of the list, and then the
 /// lines of the list, in its order (docs/script.md, Replies). An error says that memory ran out.
 pub fn report_text(alloc: Global, k: u64, list: &[FileDiag]) -> Result<Vec<u8>, NoMemory>
-    ensures { IfOk result (λ text. text.items ≡ reply_text diag_line (Reported k list.now)) }
+    ensures { IfOk result (λ text. text.items ≡ report_text k list.now) }
 {
     let count = list.len();
     let mut text = Vec::new(alloc);

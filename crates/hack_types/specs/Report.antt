@@ -1,5 +1,6 @@
 -- Reports: which lists of diagnostics are one, and how a diagnostic is written (docs/definitions.md, Report).
-use Rattle.std.specs.Prelude.{◌≡◌, ℕ, List, ◌++◌, ◌↔◌, AllPairs, Contains, codes}
+use Rattle.std.specs.Prelude.{◌≡◌, ℕ, List, ◌++◌, ◌↔◌, AllPairs, Contains, length, codes}
+use Rattle.std.specs.List.{flat_map}
 use Rattle.std.specs.Ordering.{nat_cmp, ordering_then}
 use Rattle.std.specs.declared.cmp.Ordering.{Ordering}
 use Rattle.std.specs.declared.cmp.Ordering.TheVariants.{Less}
@@ -31,3 +32,7 @@ abbrev pub diag_line : FileDiag → List ℕ
 diag_line d =
     d.file ++ codes ":" ++ decimal d.diag.at.line ++ codes ":" ++ decimal d.diag.at.column ++ codes " " ++ decimal d.diag.code
     ++ codes " " ++ d.diag.text ++ newline
+
+-- the reply to the check of this number: `check K errors M` and LF, where M is the length of the list, and the lines of the list
+abbrev pub report_text : ℕ → List FileDiag → List ℕ
+report_text k report = codes "check " ++ decimal k ++ codes " errors " ++ decimal (length report) ++ newline ++ flat_map diag_line report
