@@ -2,6 +2,7 @@ pub mod Splits
 pub mod Numbers
 pub mod Ranges
 pub mod Takes
+pub mod Behind
 pub mod Scanning
 pub mod Filling
 pub mod NextHeads
@@ -15,3 +16,4 @@ pub mod OneScript
 pub mod WholeScripts
 pub mod InTwo
 pub mod Spelling
+pub mod SpelledCommands

@@ -1,4 +1,4 @@
--- The lines that begin a command, and how each is read off its bytes (docs/script.md, Scripts command by command).
+-- The lines that begin a command, and how each is read off its bytes (docs/script.md, Form).
 use Rattle.std.specs.Prelude.{◌+◌, ◌-◌, ◌*◌, ◌&&◌, ◌||◌, ◌==◌, nat_le, nat_lt, if◌then◌else◌, ℕ, Bool, true, false, not, List, [], ◌∷◌, Option, Some, None, length, take, drop, codes, option_and_then}
 use Rattle.std.specs.Str.{bytes_eq}
 use Rattle.std.specs.List.{list_all}

@@ -1,7 +1,7 @@
 pub mod Replies
 pub mod Heads
-pub mod Spelling
 pub mod Script
+pub mod Spelling
 pub mod Whole
 pub mod Lines
 pub mod Buffers

@@ -1,9 +1,9 @@
--- What a reader of a script is to its callers, and what its calls do (docs/script.md, Scripts command by command).
-use Rattle.std.specs.Prelude.{◌≡◌, ◌⊎◌, ◌+◌, ◌-◌, ◌^◌, ℕ, Bool, true, List, [], ◌∷◌, ◌++◌, Option, Some, None, length}
+-- What a reader of a script is to its callers, and what its calls do (docs/script.md, Form).
+use Rattle.std.specs.Prelude.{◌≡◌, ◌⊎◌, ◌+◌, ◌-◌, ◌^◌, ℕ, Bool, true, false, List, [], ◌∷◌, ◌++◌, Option, Some, None, length}
 use Rattle.std.specs.Io.KnownBytes.{Consumes, IsAtEnd}
 use Rattle.hack_io.specs.Causes.{Rose}
 use Rattle.script_text.specs.Heads as heads
-use Rattle.script_text.specs.Script.{Found, Ended, next_head, Body, next_body, newlines}
+use Rattle.script_text.specs.Script.{Found, Broken, Ended, Open, next_head, Body, Bad, More, next_body, newlines}
 use Rattle.script_text.specs.declared.stand.Stand.{Stand}
 use Rattle.script_text.specs.declared.stand.Stand.TheVariants.{BeforeHead, BeforeBody, Over}
 use Rattle.script_text.specs.declared.head.Head.{Head}
@@ -70,13 +70,36 @@ pub record ReadsBody (before : Reader) (more : List ℕ) (after : Reader) (len :
   pub next : next_body after.ended len (before.unused ++ more) ≡ Body body after.unused
   pub line : after.line ≡ before.line + newlines body + 1
 
+-- where a reader stands once it passed over this body, behind which this is left
+abbrev pub past_body : Reader → List ℕ → List ℕ → Reader
+past_body before body rest = record before { unused = rest; line = before.line + newlines body + 1 }
+
+-- the body that stands next is passed over, and then the head that stands next
+pub record ReadsBehind (before : Reader) (more : List ℕ) (after : Reader) (len : ℕ) (head : Option heads.Head) : Type 0 where
+  pub body : List ℕ
+  pub rest : List ℕ
+  pub next : next_body after.ended len (before.unused ++ more) ≡ Body body rest
+  pub head_there : ReadsHead (past_body before body rest) [] after head
+
+-- the bytes are in no form where a body stands next: that body, at the line before, or the head behind it
+abbrev pub IsBrokenBehind : ℕ → ℕ → Bool → List ℕ → ℕ → Type 0
+IsBrokenBehind len line whole bytes at = ((next_body whole len bytes ≡ Bad) × (at + 1 ≡ line))
+    ⊎ ((body : List ℕ) × (rest : List ℕ) × (next_body whole len bytes ≡ Body body rest) × (next_head whole (line + newlines body + 1) rest ≡ Broken at))
+
+-- more bytes have to come: for the body, or for the head behind it
+abbrev pub WaitsBehind : ℕ → ℕ → List ℕ → Type 0
+WaitsBehind len line bytes = (next_body false len bytes ≡ More)
+    ⊎ ((body : List ℕ) × (rest : List ℕ) × (next_body false len bytes ≡ Body body rest) × (next_head false (line + newlines body + 1) rest ≡ Open))
+
 -- Why a call stopped. `broken whole bytes line` says that the bytes are in no form, whatever comes where they aren't all, for
 -- the command in that line; `waits bytes` says that more have to come. `TooLong`: 2^31 - 1 bytes were taken, and then one more.
+-- The source is asked for more only where no pull had given 0.
 abbrev pub Stops : ℕ → ℕ → Option (List ℕ) → Option (List ℕ) → Reader → Reader → (Bool → List ℕ → ℕ → Type 0) → (List ℕ → Type 0) → ReadStop → Type 0
 Stops faults_before faults_after source rest before after broken waits (stop.BadScript line) =
     Takes source rest before after (λ more. broken after.ended (before.unused ++ more) line)
 Stops faults_before faults_after source rest before after broken waits stop.Fault =
-    Rose faults_before faults_after × Takes source rest before after (λ more. waits (before.unused ++ more))
+    Rose faults_before faults_after × Takes source rest before after (λ more. waits (before.unused ++ more)) × (before.ended ≡ false)
 Stops faults_before faults_after source rest before after broken waits stop.TooLong = (more : List ℕ) × (byte : ℕ)
     × Consumes source rest (more ++ byte ∷ []) × (before.taken + length more ≡ 2 ^ 31 - 1) × waits (before.unused ++ more)
+    × (before.ended ≡ false)
 Stops faults_before faults_after source rest before after broken waits stop.NoMemory = Takes source rest before after (λ more. Unit {0})

@@ -1,4 +1,4 @@
--- A script's commands one after another, each with the line of its first byte (docs/script.md, Scripts command by command).
+-- A script's commands one after another, each with the line of its first byte (docs/script.md, Form).
 --
 -- `whole` says that the bytes are all that are left. Where it is false more may come, and what is answered then holds
 -- whatever comes.

@@ -13,8 +13,8 @@ mod tests;
 
 pub use head::{Head, ReadStop};
 pub use laws::{
-    bodies_are_settled, commands_are_settled, files_are_read_in_two, heads_are_settled,
-    heads_are_spelled, one_script, whole_commands_come_first,
+    bodies_are_settled, commands_are_settled, commands_are_spelled, files_are_read_in_two,
+    heads_are_settled, heads_are_spelled, one_script, whole_commands_come_first,
 };
 pub use reader::ScriptReader;
 pub use reply::{Reply, reply_text};

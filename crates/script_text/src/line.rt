@@ -15,7 +15,7 @@ const MAX_BODY: u64 = 1 << 20;
 /// The most bytes of a command's line, without its LF.
 pub(crate) const MAX_LINE: usize = 300;
 
-/// The head of a command (docs/script.md, Scripts command by command). Its name is borrowed from the line.
+/// The head of a command (docs/script.md, Form). Its name is borrowed from the line.
 #[derive(Clone, Copy, Debug)]
 pub(crate) enum LineHead<'a> {
     /// Put a file of this name, whose text of `len` bytes stands behind the line.
@@ -104,7 +104,7 @@ fn are_name_bytes(bytes: &[u8]) -> bool
     bytes.iter().all(|b| is_name_byte(*b))
 }
 
-/// Whether the bytes are a file's name (docs/script.md, Scripts command by command).
+/// Whether the bytes are a file's name (docs/script.md, Form).
 fn is_file_name(name: &[u8]) -> bool
     ensures { result ≡ is_file_name name.now }
 {
@@ -164,7 +164,7 @@ fn word_head(word: &[u8]) -> Option<LineHead<'_>>
     }
 }
 
-/// The head that a line is, without its LF, or `None` where it is in no form (docs/script.md, Scripts command by command).
+/// The head that a line is, without its LF, or `None` where it is in no form (docs/script.md, Form).
 #[tactic(auto, unfolding(crate::specs::Heads::head_of_line))]
 pub(crate) fn head_of_line(line: &[u8]) -> Option<LineHead<'_>>
     ensures { option_map head_view result ≡ head_of_line line.now }

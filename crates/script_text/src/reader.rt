@@ -5,8 +5,8 @@ ghost use Rattle.memchr.specs.Find.{IsFirst, Nowhere, Passes, is_byte};
 ghost use Rattle.hack_io.specs.Causes.{Rose};
 ghost use Rattle.script_text.specs.Script.{Broken, Open, next_head, Bad, More, next_body, newlines, Body, behind_body};
 ghost use Rattle.script_text.specs.Ends.{IsNoEnd};
-ghost use Rattle.script_text.specs.Reader.{Takes, Stops, ReadsHead, ReadsBody, head_of, stand_after};
-ghost use Rattle.script_text.specs.declared.stand.Stand.TheVariants.{BeforeHead as StandsBeforeHead, BeforeBody as StandsBeforeBody};
+ghost use Rattle.script_text.specs.Reader.{Takes, Stops, ReadsHead, ReadsBody, ReadsBehind, IsBrokenBehind, WaitsBehind, head_of, stand_after};
+ghost use Rattle.script_text.specs.declared.stand.Stand.TheVariants.{BeforeHead as StandsBeforeHead, BeforeBody as StandsBeforeBody, Over as StandsOver};
 
 use crate::buffer::{Buffer, zeros};
 use crate::line::{MAX_LINE, head_found, owned, stand_behind};
@@ -19,7 +19,7 @@ use std::marker::Model;
 /// The most bytes of a script.
 const MAX_SCRIPT: u64 = (1 << 31) - 1;
 
-/// Reads a script head by head and body by body (docs/script.md, Scripts command by command).
+/// Reads a script head by head and body by body (docs/script.md, Form).
 ///
 /// It means the bytes that it took of its source and hasn't used, how many it took in all, whether a pull gave 0, the
 /// line of the first unused byte, from 1, and where it stands in the forms of a script. After a `ReadStop` it isn't
@@ -46,14 +46,15 @@ impl Model for ScriptReader {
 }
 
 impl ScriptReader {
-    ghost use Rattle.std.specs.Prelude.{◌≡◌, ◌≤◌, ◌<◌, ◌+◌, ◌-◌, ◌⊎◌, ◌^◌, ◌++◌, [], ◌∷◌, ℕ, List, true, false, length, take, drop, min, IfOk, IfErr, IfSome, OnOk, OnErr, IsSome, None};
+    ghost use Rattle.std.specs.Prelude.{◌≡◌, ◌≤◌, ◌<◌, ◌+◌, ◌-◌, ◌⊎◌, ◌^◌, ◌++◌, [], ◌∷◌, ℕ, List, true, false, length, take, drop, min, Ok, IfOk, IfErr, IfSome, OnOk, OnErr, IsSome, None};
     ghost use Rattle.std.specs.Io.KnownBytes.{Consumes, Keeps, IsAtEnd};
     ghost use Rattle.script_text.specs.Script.{Broken, Open, next_head, Bad, More, next_body, newlines, Body, behind_body};
     ghost use Rattle.script_text.specs.Lines.{head_found};
-    ghost use Rattle.script_text.specs.Reader.{Takes, Stops, ReadsHead, ReadsBody, head_of, stand_after};
+    ghost use Rattle.script_text.specs.Reader.{Takes, Stops, ReadsHead, ReadsBody, ReadsBehind, IsBrokenBehind, WaitsBehind, head_of, stand_after};
     ghost use Rattle.script_text.specs.Reading.{SameNext, IsLineStart, IsSkipped, IsLineEnd, rest_found, SamePlace, IsFilled, head_bytes};
-    ghost use Rattle.script_text.specs.declared.stand.Stand.TheVariants.{BeforeHead as StandsBeforeHead, BeforeBody as StandsBeforeBody};
+    ghost use Rattle.script_text.specs.declared.stand.Stand.TheVariants.{BeforeHead as StandsBeforeHead, BeforeBody as StandsBeforeBody, Over as StandsOver};
     ghost use Rattle.script_text.specs.declared.head.ReadStop.TheVariants as stop;
+    ghost use Rattle.script_text.specs.declared.head.Head.TheVariants as head;
 
     /// A reader that has taken nothing, in line 1, where a command may begin.
     pub fn new(alloc: Global) -> Result<ScriptReader, NoMemory>
@@ -78,8 +79,50 @@ impl ScriptReader {
 
     /// The head of the next command; `End` where only empty lines were left and the source has ended.
     ///
-    /// `BadScript` says that the next line that isn't empty is in no form.
+    /// Where the body of a `file` wasn't read it is passed over; behind `quit` nothing is read, and the answer is `Quit` again.
+    /// `BadScript` says that the next line that isn't empty is in no form, or that the body to pass over isn't there whole.
     pub fn read_head<S: Source>(&mut self, alloc: Global, source: &mut S) -> Result<Head, ReadStop>
+        ensures head { IfOk result (λ head. self.old.stand ≡ StandsBeforeHead → Takes (S.left source.old) (S.left source.new) self.old self.new
+            (λ more. ReadsHead self.old more self.new (head_of head))) }
+        ensures behind_file { IfOk result (λ head. (len : ℕ) → self.old.stand ≡ StandsBeforeBody len → Takes (S.left source.old) (S.left source.new) self.old self.new
+            (λ more. ReadsBehind self.old more self.new len (head_of head))) }
+        ensures behind_quit { self.old.stand ≡ StandsOver → (result ≡ Ok head.Quit) × (self.new ≡ self.old) × (source.new ≡ source.old) }
+        ensures stand { IfOk result (λ head. self.new.stand ≡ stand_after (head_of head)) }
+        ensures faults { OnOk result (S.faults source.new ≡ S.faults source.old) }
+        ensures most { self.new.taken ≤ 2147483647 }
+        ensures stopped { IfErr result (λ stop. self.old.stand ≡ StandsBeforeHead → Stops (S.faults source.old) (S.faults source.new) (S.left source.old) (S.left source.new) self.old self.new
+            (λ whole bytes line. next_head whole self.old.line bytes ≡ Broken line) (λ bytes. next_head false self.old.line bytes ≡ Open) stop) }
+        ensures stopped_behind_file { IfErr result (λ stop. (len : ℕ) → self.old.stand ≡ StandsBeforeBody len → Stops (S.faults source.old) (S.faults source.new) (S.left source.old) (S.left source.new)
+            self.old self.new (IsBrokenBehind len self.old.line) (WaitsBehind len self.old.line) stop) }
+    {
+        match self.stand {
+            Stand::BeforeHead => self.next_head(alloc, source),
+            Stand::BeforeBody(len) => self.next_behind(alloc, source, len),
+            Stand::Over => Ok(Head::Quit),
+        }
+    }
+
+    /// Passes over a body, and reads the head behind it.
+    fn next_behind<S: Source>(
+        &mut self,
+        alloc: Global,
+        source: &mut S,
+        len: u64,
+    ) -> Result<Head, ReadStop>
+        requires { self.old.stand ≡ StandsBeforeBody len }
+        ensures head { IfOk result (λ head. Takes (S.left source.old) (S.left source.new) self.old self.new (λ more. ReadsBehind self.old more self.new len (head_of head))) }
+        ensures stand { IfOk result (λ head. self.new.stand ≡ stand_after (head_of head)) }
+        ensures faults { OnOk result (S.faults source.new ≡ S.faults source.old) }
+        ensures most { self.new.taken ≤ 2147483647 }
+        ensures stopped { IfErr result (Stops (S.faults source.old) (S.faults source.new) (S.left source.old) (S.left source.new) self.old self.new
+            (IsBrokenBehind len self.old.line) (WaitsBehind len self.old.line)) }
+    {
+        let _passed = self.read_body(alloc, source, len)?;
+        self.next_head(alloc, source)
+    }
+
+    /// The head that stands next where a command may begin.
+    fn next_head<S: Source>(&mut self, alloc: Global, source: &mut S) -> Result<Head, ReadStop>
         requires { self.old.stand ≡ StandsBeforeHead }
         ensures head { IfOk result (λ head. Takes (S.left source.old) (S.left source.new) self.old self.new
             (λ more. ReadsHead self.old more self.new (head_of head))) }

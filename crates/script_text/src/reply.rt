@@ -7,7 +7,7 @@ use hack_io::NoMemory;
 use hack_types::FileDiag;
 use std::alloc::Global;
 
-/// The reply to a command (docs/script.md, Scripts command by command).
+/// The reply to a command (docs/script.md, Replies).
 #[derive(Debug, Drop)]
 pub enum Reply {
     /// A file was put or taken away: how many times that was done so far.
@@ -21,7 +21,7 @@ pub enum Reply {
 }
 
 /// The bytes of a reply. The form as JSON isn't there yet, so `json` is false. An error says that memory ran out
-/// (docs/script.md, Scripts command by command).
+/// (docs/script.md, Replies).
 pub fn reply_text(alloc: Global, reply: &Reply, json: bool) -> Result<Vec<u8>, NoMemory>
     requires { json ≡ false }
     ensures { IfOk result (λ text. text.items ≡ reply_text reply.now) }

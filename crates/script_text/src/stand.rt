@@ -1,6 +1,6 @@
 // Where a reader stands in the forms of a script.
 
-/// Where a reader stands in the forms of a script (docs/script.md, Scripts command by command).
+/// Where a reader stands in the forms of a script (docs/script.md, Form).
 #[derive(Clone, Copy, Debug, PartialEq, Eq)]
 pub enum Stand {
     /// Where a command may begin.

@@ -211,7 +211,7 @@ fn a_line_is_refused_at_its_first_byte_too_many(rt: HostRuntime) -> Result<(), F
     Ok(())
 }
 
-// The bytes are those of docs/script.md, Replies and Scripts command by command.
+// The bytes are those of docs/script.md, Replies.
 #[test]
 fn a_reply_is_a_line_or_a_report(rt: HostRuntime) -> Result<(), NoMemory> {
     let alloc = rt.alloc();
