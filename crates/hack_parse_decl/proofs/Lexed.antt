@@ -1,5 +1,5 @@
 -- Tokens as the grammar sees them: their names stay, and one more is one token more.
-use Rattle.std.proofs.Common.{◌≡◌, ℕ, zero, suc, ◌+◌, ◌-◌, ◌<◌, ◌≤◌, Bool, true, false, List, [], ◌∷◌, ◌++◌, length, get_or, take, drop, Option, None, Some, refl, sym, ap, ◌∙◌, subst, arith, if◌then◌else◌, append_assoc, append-nil, length-append}
+use Rattle.std.proofs.Common.{◌≡◌, ℕ, zero, suc, ◌+◌, ◌-◌, ◌*◌, ◌<◌, ◌≤◌, Bool, true, false, List, [], ◌∷◌, ◌++◌, length, get_or, take, drop, Option, None, Some, refl, sym, ap, ◌∙◌, subst, arith, if◌then◌else◌, append_assoc, append-nil, length-append}
 use Rattle.std.specs.Prelude.{slice_get}
 use Rattle.std.specs.List.{list_any}
 use Rattle.std.specs.Str.{bytes_eq}
@@ -8,9 +8,13 @@ use Rattle.std.proofs.lemmas.Option.{slice_get_within, get_or_from_slice_get}
 use Rattle.hack_types.specs.Names.{EachOnce}
 use Rattle.hack_types.specs.Places.{place_of}
 use Rattle.hack_lexer.specs.declared.token.Token.{Token}
-use Rattle.hack_lexer.specs.Kinds.{sort_of_kind}
-use Rattle.hack_lexer.specs.Tokens.{text_of}
+use Rattle.hack_lexer.specs.declared.kind.TokenKind.{TokenKind}
+use Rattle.hack_lexer.specs.declared.kind.TokenKind.TheVariants as kind
+use Rattle.hack_lexer.specs.Forms.{content_of}
+use Rattle.hack_lexer.specs.Kinds.{number_of_keyword, sort_of_kind}
+use Rattle.hack_lexer.specs.Tokens.{text_of, AreTokens}
 use Rattle.hack_parse_expr.specs.declared.lexeme.Lexeme.{Lexeme}
+use Rattle.hack_parse_decl.proofs.FewNames.{names_of, names_of_sort, one_of_keyword, names_more, few_names, names_first}
 use Rattle.hack_parse_decl.specs.Lexemes.{spelled, IsIdOf, IsNamed, IsLexeme, AreLexemes, with_spelled, between, with_names, Extends}
 
 -- ---- ids
@@ -63,9 +67,28 @@ one_or_none : (names : List (List ℕ)) (text : List ℕ) (b : Bool) → length 
 one_or_none names text true = omega arith
 one_or_none names text false = omega (arith, length-append names (text ∷ []))
 
-pub spelled_length : (names : List (List ℕ)) (name : Option (List ℕ)) → length (with_spelled names name) ≤ length names + 1
-spelled_length names None = omega arith
-spelled_length names (Some text) = one_or_none names text (list_any (bytes_eq text) names)
+-- one more name at most
+pub one_spelled : (names : List (List ℕ)) (name : Option (List ℕ)) → length (with_spelled names name) ≤ length names + 1
+one_spelled names None = omega arith
+one_spelled names (Some text) = one_or_none names text (list_any (bytes_eq text) names)
+
+-- a token whose sort has no name spells none
+spelled_length : (names : List (List ℕ)) (k : TokenKind) (text : List ℕ) (sort : ℕ) → sort_of_kind k ≡ sort → length (with_spelled names (spelled k text)) ≤ length names + names_of_sort sort
+spelled_length names k text sort e = subst (λ s. length (with_spelled names (spelled k text)) ≤ length names + names_of_sort s) e (by k)
+  where
+    one : (name : List ℕ) → length (with_spelled names (Some name)) ≤ length names + 1
+    one name = one_spelled names (Some name)
+
+    by : (k : TokenKind) → length (with_spelled names (spelled k text)) ≤ length names + names_of_sort (sort_of_kind k)
+    by kind.Name = one text
+    by kind.Variable = one (drop 1 text)
+    by kind.This = omega arith
+    by kind.Int = omega arith
+    by kind.Float = omega arith
+    by kind.Text = omega arith
+    by kind.KeyText = one (content_of text)
+    by (kind.Mark m) = omega arith
+    by (kind.Keyword w) = omega (arith, one text, one_of_keyword (62 + number_of_keyword w) (omega arith))
 
 -- the name of one token more
 pub with_names-push : (names : List (List ℕ)) (bytes : List ℕ) (ls : List Lexeme) (l : Lexeme) →
@@ -84,7 +107,7 @@ lexeme_stays old new bytes t l more h = record {
   name = named_stays old new (spelled l.kind (text_of bytes t)) l.name more h.name;
 }
 
-lexemes_stay : (old new : List (List ℕ)) (bytes : List ℕ) (ts : List Token) (ls : List Lexeme) → Extends old new → AreLexemes old bytes ts ls → AreLexemes new bytes ts ls
+pub lexemes_stay : (old new : List (List ℕ)) (bytes : List ℕ) (ts : List Token) (ls : List Lexeme) → Extends old new → AreLexemes old bytes ts ls → AreLexemes new bytes ts ls
 lexemes_stay old new bytes [] [] more h = tt
 lexemes_stay old new bytes (t ∷ ts) (l ∷ ls) more h = (lexeme_stays old new bytes t l more h.0, lexemes_stay old new bytes ts ls more h.1)
 lexemes_stay old new bytes [] (l ∷ ls) more h = h
@@ -111,20 +134,20 @@ pub record AreSoFar (old names : List (List ℕ)) (bytes : List ℕ) (tokens : L
   pub made : AreLexemes names bytes (take index tokens) ls
   pub named : names ≡ with_names old bytes ls
   pub kept : Extends old names
-  pub few : length names ≤ length old + index
+  pub few : length names ≤ length old + names_of (take index tokens)
 
 pub one_more : (old names new : List (List ℕ)) (bytes : List ℕ) (tokens : List Token) (index : ℕ) (d : Token) (ls : List Lexeme) (l : Lexeme) →
     index < length tokens → AreSoFar old names bytes tokens index ls → IsNextLexeme names new bytes (get_or tokens index d) l → AreSoFar old new bytes tokens (index + 1) (ls ++ l ∷ [])
 one_more old names new bytes tokens index d ls l lt h one =
     let name : Option (List ℕ) = spelled l.kind (between bytes l.first l.behind) in
     let more : Extends names new = subst (Extends names) (sym one.added) (extends_spelled names name) in
-    let long : length new ≤ length names + 1 = subst (λ n. length n ≤ length names + 1) (sym one.added) (spelled_length names name) in
+    let long : length new ≤ length names + names_of_sort (get_or tokens index d).sort = subst (λ n. length n ≤ length names + names_of_sort (get_or tokens index d).sort) (sym one.added) (spelled_length names l.kind (between bytes l.first l.behind) (get_or tokens index d).sort one.lexeme.kind) in
     record {
       made = subst (λ ts. AreLexemes new bytes ts (ls ++ l ∷ [])) (sym (take_more tokens index d lt))
           (lexemes_push new bytes (take index tokens) ls (get_or tokens index d) l (lexemes_stay names new bytes (take index tokens) ls more h.made) one.lexeme);
       named = one.added ∙ ap (λ ns. with_spelled ns name) h.named ∙ sym (with_names-push old bytes ls l);
       kept = extends_more old names new h.kept more;
-      few = omega (arith, h.few);
+      few = omega (arith, h.few, long, names_more tokens index d lt);
     }
 
 -- no token yet
@@ -145,3 +168,8 @@ next_lexeme names new bytes t l name kind at first behind spells id added = reco
   };
   added = added ∙ ap (with_spelled names) (spells ∙ (λ i. spelled l.kind (between bytes (sym first i) (sym behind i))));
 }
+
+-- twice the names so far are few
+pub few_so_far : (old names : List (List ℕ)) (bytes : List ℕ) (tokens : List Token) (index : ℕ) (ls : List Lexeme) → AreTokens bytes tokens → AreSoFar old names bytes tokens index ls
+    → 2 * length names ≤ 2 * length old + length bytes + 1
+few_so_far old names bytes tokens index ls cut h = omega (arith, few_names bytes tokens cut, names_first tokens index, h.few)

@@ -1,6 +1,7 @@
 pub mod DeclarationsFollow
 pub mod MembersFollow
 pub mod SignaturesFollow
+pub mod FewNames
 pub mod Lexed
 pub mod FilesFollow
 pub mod Nameless

@@ -15,8 +15,9 @@ use Rattle.hack_parse_expr.specs.Symbols.{File, Declared, rule}
 use Rattle.hack_parse_expr.specs.Parsers.{at_front}
 use Rattle.hack_parse_expr.specs.Run.{Stands, Fails}
 use Rattle.hack_parse_expr.proofs.Runs.{stands_once, fails_once, stands_or_fails}
-use Rattle.hack_parse_decl.specs.Lexemes.{spelled, IsIdOf, IsNamed, IsLexeme, AreLexemes, with_spelled, between, with_names}
-use Rattle.hack_parse_decl.specs.Files.{end_of, unit_of, IsInput, IsFileTree, IsLeftOver, IsGrammarFault, IsFileFault}
+use Rattle.hack_parse_decl.specs.Lexemes.{spelled, IsIdOf, IsNamed, IsLexeme, AreLexemes, with_spelled, between, with_names, Extends}
+use Rattle.hack_parse_decl.specs.Files.{end_of, unit_of, IsInput, IsTree, IsFileTree, IsLeftOver, IsGrammarFault, IsFileFault}
+use Rattle.hack_parse_decl.proofs.Lexed.{lexemes_stay}
 use Rattle.hack_parse_decl.proofs.Nameless.{nameless, nameless_input, refusal_same, stands_nameless, fails_nameless}
 
 -- ---- tokens but for their names
@@ -86,11 +87,43 @@ lexemes_once names bytes [] (l ∷ ls) ms h k = absurd h
 lexemes_once names bytes (t ∷ ts) [] ms h k = absurd h
 lexemes_once names bytes (t ∷ ts) (l ∷ ls) [] h k = absurd k
 
-inputs_once : (names : List (List ℕ)) (bytes : List ℕ) (ls ms : List Lexeme) → IsInput names bytes ls → IsInput names bytes ms → ls ≡ ms
+pub inputs_once : (names : List (List ℕ)) (bytes : List ℕ) (ls ms : List Lexeme) → IsInput names bytes ls → IsInput names bytes ms → ls ≡ ms
 inputs_once names bytes ls ms h k =
     lexemes_once names bytes k.tokens ls ms (subst (λ ts. AreLexemes names bytes ts ls) (one_list bytes h.tokens k.tokens h.cut k.cut) h.lexed) k.lexed
 
 -- ---- trees
+
+-- a file's tree is one, whatever names there were before
+pub is_tree : (before names : List (List ℕ)) (bytes : List ℕ) (tree : FileTree) → IsFileTree before names bytes tree → IsTree names bytes tree
+is_tree before names bytes tree h = record {
+  lexemes = h.lexemes;
+  input = h.input;
+  declared = h.declared;
+  rest = h.rest;
+  stands = h.stands;
+  all = h.all;
+  units = h.units;
+}
+
+-- a tree stays where names are added
+pub tree_stays : (names more : List (List ℕ)) (bytes : List ℕ) (tree : FileTree) → Extends names more → IsTree names bytes tree → IsTree more bytes tree
+tree_stays names more bytes tree added h = record {
+  lexemes = h.lexemes;
+  input = record { tokens = h.input.tokens; cut = h.input.cut; lexed = lexemes_stay names more bytes h.input.tokens h.lexemes added h.input.lexed };
+  declared = h.declared;
+  rest = h.rest;
+  stands = h.stands;
+  all = h.all;
+  units = h.units;
+}
+
+-- the same names have one tree
+pub one_tree_of : (names : List (List ℕ)) (bytes : List ℕ) (tree other : FileTree) → IsTree names bytes tree → IsTree names bytes other → tree ≡ other
+one_tree_of names bytes tree other h k =
+    let lexed : h.lexemes ≡ k.lexemes = inputs_once names bytes h.lexemes k.lexemes h.input k.input in
+    let read = stands_once (rule File) (at_front k.lexemes (end_of bytes)) h.declared k.declared h.rest k.rest (subst (λ ls. Stands (rule File) (at_front ls (end_of bytes)) h.declared h.rest) lexed h.stands) k.stands in
+    let units : tree.units ≡ other.units = h.units ∙ ap (map (unit_of bytes)) read.0 ∙ sym k.units in
+    λ i. record { units = units i }
 
 -- a file has one tree at most, and one list of names
 pub one_tree : (before names others : List (List ℕ)) (bytes : List ℕ) (tree other : FileTree) →
@@ -99,10 +132,7 @@ one_tree before names others bytes tree other h k =
     let named : names ≡ others =
     h.named ∙ with_names-nameless before bytes h.lexemes ∙ ap (with_names before bytes) (inputs_nameless names others bytes h.lexemes k.lexemes h.input k.input)
     ∙ sym (with_names-nameless before bytes k.lexemes) ∙ sym k.named in
-    let lexed : h.lexemes ≡ k.lexemes = inputs_once others bytes h.lexemes k.lexemes (subst (λ ns. IsInput ns bytes h.lexemes) named h.input) k.input in
-    let read = stands_once (rule File) (at_front k.lexemes (end_of bytes)) h.declared k.declared h.rest k.rest (subst (λ ls. Stands (rule File) (at_front ls (end_of bytes)) h.declared h.rest) lexed h.stands) k.stands in
-    let units : tree.units ≡ other.units = h.units ∙ ap (map (unit_of bytes)) read.0 ∙ sym k.units in
-    (named, λ i. record { units = units i })
+    (named, one_tree_of others bytes tree other (subst (λ ns. IsTree ns bytes tree) named (is_tree before names bytes tree h)) (is_tree before others bytes other k))
 
 -- ---- faults
 
@@ -137,11 +167,11 @@ none_but_names : (ts : List Lexeme) → map nameless ts ≡ [] → ts ≡ []
 none_but_names [] e = refl
 none_but_names (t ∷ ts) e = absurd (cc)
 
--- a file with a tree has no fault
-pub tree_or_fault : (before names : List (List ℕ)) (bytes : List ℕ) (tree : FileTree) (place : Place) (code : ℕ) →
-    IsFileTree before names bytes tree → IsFileFault bytes place code → ⊥
-tree_or_fault before names bytes tree place code h (inl fault) = no_both bytes h.input.tokens place code h.input.cut fault
-tree_or_fault before names bytes tree place code h (inr k) =
+-- bytes with a tree have no fault
+pub no_fault_of_tree : (names : List (List ℕ)) (bytes : List ℕ) (tree : FileTree) (place : Place) (code : ℕ) →
+    IsTree names bytes tree → IsFileFault bytes place code → ⊥
+no_fault_of_tree names bytes tree place code h (inl fault) = no_both bytes h.input.tokens place code h.input.cut fault
+no_fault_of_tree names bytes tree place code h (inr k) =
     let e = inputs_nameless names k.names bytes h.lexemes k.lexemes h.input k.input in
     elim k.fault [
       | inl stuck ↦ read_or_stuck bytes h.lexemes k.lexemes h.declared h.rest (Fault place code) e h.stands stuck
@@ -149,6 +179,11 @@ tree_or_fault before names bytes tree place code h (inr k) =
           let left = left_once bytes h.lexemes k.lexemes h.declared over.declared h.rest over.rest e h.stands over.stands in
           over.more (none_but_names over.rest.left (sym (ap (λ i. i.left) left) ∙ ap (map nameless) h.all))
     ]
+
+-- a file with a tree has no fault
+pub tree_or_fault : (before names : List (List ℕ)) (bytes : List ℕ) (tree : FileTree) (place : Place) (code : ℕ) →
+    IsFileTree before names bytes tree → IsFileFault bytes place code → ⊥
+tree_or_fault before names bytes tree place code h = no_fault_of_tree names bytes tree place code (is_tree before names bytes tree h)
 
 -- a fault of the grammar is one
 stop_once : (bytes : List ℕ) (ls ms : List Lexeme) (stop other : ParseStop) → map nameless ls ≡ map nameless ms →

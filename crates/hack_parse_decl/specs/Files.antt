@@ -87,8 +87,18 @@ pub record IsInput (names : List (List ℕ)) (bytes : List ℕ) (lexemes : List 
   pub cut : AreTokens bytes tokens
   pub lexed : AreLexemes names bytes tokens lexemes
 
--- the bytes have this tree: their tokens are declarations, one after another, and nothing else; to the names those of
--- the tokens are added
+-- the bytes have this tree, where the names of their tokens are among these: the tokens are declarations, one after
+-- another, and nothing else
+pub record IsTree (names : List (List ℕ)) (bytes : List ℕ) (tree : FileTree) : Type 0 where
+  pub lexemes : List Lexeme
+  pub input : IsInput names bytes lexemes
+  pub declared : List Declared
+  pub rest : Input
+  pub stands : Stands (rule File) (at_front lexemes (end_of bytes)) declared rest
+  pub all : rest.left ≡ []
+  pub units : tree.units ≡ map (unit_of bytes) declared
+
+-- the same where to these names before it those of the tokens were added
 pub record IsFileTree (before names : List (List ℕ)) (bytes : List ℕ) (tree : FileTree) : Type 0 where
   pub lexemes : List Lexeme
   pub input : IsInput names bytes lexemes

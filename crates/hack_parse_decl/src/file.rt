@@ -1,9 +1,9 @@
 // Files (docs/language.md, Declarations).
-ghost use Rattle.std.specs.Prelude.{◌≡◌, ◌≤◌, ◌<◌, ◌+◌, ◌-◌, ◌^◌, ℕ, List, length, IfOk, IfErr};
+ghost use Rattle.std.specs.Prelude.{◌≡◌, ◌≤◌, ◌<◌, ◌+◌, ◌-◌, ◌*◌, ◌^◌, ℕ, List, length, IfOk, IfErr};
 ghost use Rattle.hack_types.specs.declared.place.Place.{Place};
 ghost use Rattle.hack_tree.specs.declared.declaration.FileTree.{FileTree};
 ghost use Rattle.hack_parse_decl.specs.Files as files;
-ghost use Rattle.hack_parse_decl.specs.Files.{IsFileTree, IsFileFault, IsFileStop};
+ghost use Rattle.hack_parse_decl.specs.Files.{IsTree, IsFileTree, IsFileFault, IsFileStop};
 ghost use Rattle.hack_parse_decl.specs.Lexemes as lexed;
 ghost use Rattle.hack_parse_expr.specs.Rows.{begins_declaration};
 ghost use Rattle.hack_parse_expr.specs.Parsers.{Reads};
@@ -20,13 +20,15 @@ use sqlite_items::Items;
 use std::alloc::Global;
 
 /// The tree of a file, whose names are among `names` from now on (docs/language.md, Grammar). A fault is that of the file's
-/// tokens, or else that of its grammar; after it, and where memory ran out, `names` may hold more names.
+/// tokens, or else that of its grammar; after it, and where memory ran out, `names` may hold more names. A text of b bytes
+/// adds at most (b + 3) / 2 names, for which there is room.
 pub fn parse_file(alloc: Global, names: &mut Names, bytes: &[u8]) -> Result<FileTree, ParseStop>
     requires short { length bytes.now ≤ 2 ^ 20 }
-    requires room { length names.old + length bytes.now < 2 ^ 30 - 1 }
+    requires room { 2 * length names.old + length bytes.now + 3 ≤ 2 ^ 31 - 2 }
     ensures tree { IfOk result (λ tree. IsFileTree names.old names.new bytes.now tree) }
     ensures fault { IfErr result (IsFileStop bytes.now) }
     ensures kept { lexed.Extends names.old names.new }
+    ensures few { 2 * length names.new ≤ 2 * length names.old + length bytes.now + 3 }
 {
     let tokens = match tokens(alloc, bytes) {
         Ok(tokens) => tokens,
@@ -48,6 +50,15 @@ pub fn one_tree()
     ensures tree { (before names others : List (List ℕ)) (bytes : List ℕ) (tree other : FileTree) → IsFileTree before names bytes tree → IsFileTree before others bytes other → (names ≡ others) × (tree ≡ other) }
     ensures tree_or_fault { (before names : List (List ℕ)) (bytes : List ℕ) (tree : FileTree) (place : Place) (code : ℕ) → IsFileTree before names bytes tree → IsFileFault bytes place code → ⊥ }
     ensures fault { (bytes : List ℕ) (place other : Place) (code second : ℕ) → IsFileFault bytes place code → IsFileFault bytes other second → (place ≡ other) × (code ≡ second) }
+{}
+
+/// A file's tree is a tree whatever names were there before it, stays one where names are added, is the only one over
+/// these names, and is none where the file has a fault.
+pub fn trees_stay()
+    ensures is { (before names : List (List ℕ)) (bytes : List ℕ) (tree : FileTree) → IsFileTree before names bytes tree → IsTree names bytes tree }
+    ensures stays { (names more : List (List ℕ)) (bytes : List ℕ) (tree : FileTree) → lexed.Extends names more → IsTree names bytes tree → IsTree more bytes tree }
+    ensures one { (names : List (List ℕ)) (bytes : List ℕ) (tree other : FileTree) → IsTree names bytes tree → IsTree names bytes other → tree ≡ other }
+    ensures fault { (names : List (List ℕ)) (bytes : List ℕ) (tree : FileTree) (place : Place) (code : ℕ) → IsTree names bytes tree → IsFileFault bytes place code → ⊥ }
 {}
 
 #[tactic(auto, unfolding(crate::specs::Files::units, hack_parse_expr::specs::Parsers::many_of, hack_parse_expr::specs::Parsers::many_from))]

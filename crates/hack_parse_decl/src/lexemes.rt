@@ -1,5 +1,5 @@
 // The tokens of a file as the grammar sees them.
-ghost use Rattle.std.specs.Prelude.{◌≡◌, ◌<◌, ◌≤◌, ◌+◌, ◌-◌, ◌^◌, length, IfOk, OnOk, OnErr};
+ghost use Rattle.std.specs.Prelude.{◌≡◌, ◌<◌, ◌≤◌, ◌+◌, ◌-◌, ◌*◌, ◌^◌, length, IfOk, OnOk, OnErr};
 ghost use Rattle.std.specs.List.{AllByRecursion};
 ghost use Rattle.hack_lexer.specs.Forms.{content_of};
 ghost use Rattle.hack_lexer.specs.Tokens.{AreTokens};
@@ -21,10 +21,11 @@ pub(crate) fn lexemes(
     requires short { length bytes.now ≤ 2 ^ 20 }
     requires cut { AreTokens bytes.now tokens.now }
     requires kinds { AllByRecursion (λ t. t.sort < 121) tokens.now }
-    requires room { length names.old + length bytes.now < 2 ^ 30 - 1 }
+    requires room { 2 * length names.old + length bytes.now + 3 ≤ 2 ^ 31 - 2 }
     ensures lexemes { IfOk result (λ lexemes. AreLexemes names.new bytes.now tokens.now lexemes.items) }
     ensures names { IfOk result (λ lexemes. names.new ≡ with_names names.old bytes.now lexemes.items) }
     ensures kept { Extends names.old names.new }
+    ensures few { 2 * length names.new ≤ 2 * length names.old + length bytes.now + 3 }
 {
     let mut lexemes = Vec::new(alloc);
     let mut at = Place::START;

@@ -9,5 +9,5 @@ mod signature;
 #[cfg(test)]
 mod tests;
 
-pub use file::{absolute, one_tree, parse_file};
+pub use file::{absolute, one_tree, parse_file, trees_stay};
 pub use hack_parse_expr::ParseStop;

@@ -1,9 +1,9 @@
-use Rattle.std.proofs.Common.{ℕ, get_or, refl, sym, subst, arith}
+use Rattle.std.proofs.Common.{ℕ, length, get_or, refl, sym, ap, subst, arith}
 use Rattle.std.proofs.lemmas.List.{length-take, length-drop}
 use Rattle.hack_lexer.specs.declared.token.Token.{Token}
-use Rattle.hack_lexer.proofs.InOrder.{as_many_bytes, next, place_next, start_ahead}
-use Rattle.hack_parse_decl.specs.Lexemes.{Extends}
-use Rattle.hack_parse_decl.proofs.Lexed.{none_yet, next_lexeme, one_more, extends_more, extends_spelled}
+use Rattle.hack_lexer.proofs.InOrder.{next, place_next, start_ahead}
+use Rattle.hack_parse_decl.specs.Lexemes.{Extends, option_bytes}
+use Rattle.hack_parse_decl.proofs.Lexed.{none_yet, few_so_far, one_spelled, next_lexeme, one_more, extends_more, extends_spelled}
 use Rattle.hack_parse_decl.proofs.lexemes.lexemes.Goals as goal
 
 pub loop-token-init : goal.loop-token-init
@@ -17,7 +17,24 @@ loop-token-init c = record {
 }
 
 pub named-requires : goal.named-requires
-named-requires c = record { room = omega (arith, as_many_bytes c.args.bytes.now c.args.tokens.now c.requires.cut, c.loop-token.invariant.so_far.few, c.loop-token-test.true) }
+named-requires c = record { room = omega (arith, c.requires.room, few_so_far c.args.names.now c.loop-token.names c.args.bytes.now c.args.tokens.now c.loop-token.token-index _ c.requires.cut c.loop-token.invariant.so_far) }
+
+pub returns-in_err-name-clause-few : goal.returns-in_err-name-clause-few
+returns-in_err-name-clause-few c =
+    omega (arith, ap length c.in_err-name.ensures.err, few_so_far c.args.names.now c.loop-token.names c.args.bytes.now c.args.tokens.now c.loop-token.token-index _ c.requires.cut c.loop-token.invariant.so_far)
+
+pub returns-in_err-push-clause-few : goal.returns-in_err-push-clause-few
+returns-in_err-push-clause-few c =
+    omega (
+      arith,
+      ap length c.in_ok-name.ensures.names,
+      one_spelled c.loop-token.names (option_bytes c.spelled.result),
+      few_so_far c.args.names.now c.loop-token.names c.args.bytes.now c.args.tokens.now c.loop-token.token-index _ c.requires.cut c.loop-token.invariant.so_far,
+    )
+
+pub returns-clause-few : goal.returns-clause-few
+returns-clause-few c =
+    omega (arith, few_so_far c.args.names.now c.loop-token.names c.args.bytes.now c.args.tokens.now c.loop-token.token-index _ c.requires.cut c.loop-token.invariant.so_far)
 
 pub returns-in_err-push-clause-kept : goal.returns-in_err-push-clause-kept
 returns-in_err-push-clause-kept c =
