@@ -1,5 +1,5 @@
 -- A body is a list of first units exactly where it has a tree whose declarations all are.
-use Rattle.std.proofs.Common.{◌≡◌, ◌⊎◌, inl, inr, ℕ, ◌+◌, ◌^◌, ◌<◌, List, [], map, length, Option, Some, None, Result, Ok, Err, sym, ap, ◌∙◌, subst, arith}
+use Rattle.std.proofs.Common.{◌≡◌, ◌⊎◌, inl, inr, ℕ, ◌+◌, ◌^◌, ◌<◌, List, [], length, Some, Result, Ok, Err, sym, ap, ◌∙◌, subst}
 use Rattle.hack_types.specs.declared.place.Place.{Place}
 use Rattle.hack_lexer.specs.declared.token.Token.{Token}
 use Rattle.hack_lexer.specs.Tokens.{AreTokens}
@@ -14,11 +14,11 @@ use Rattle.hack_parse_expr.specs.Parsers.{at_front}
 use Rattle.hack_parse_expr.specs.Symbols.{Declared, File, rule}
 use Rattle.hack_parse_decl.specs.Lexemes.{AreLexemes}
 use Rattle.hack_parse_decl.specs.Declarations.{declarations}
-use Rattle.hack_parse_decl.specs.Files.{IsFileTree, IsFileFault, IsLeftOver, end_of}
+use Rattle.hack_parse_decl.specs.Files.{IsTree, IsFileFault, IsLeftOver, end_of}
 use Rattle.hack_parse_decl.proofs.DeclarationsFollow.{files_stand, files_fail}
 use Rattle.hack_first.specs.Functions.{Function}
 use Rattle.hack_first.specs.FirstUnits.{AreUnits, IsFirstBody}
-use Rattle.hack_first.specs.FirstTrees.{first_functions, unit_functions}
+use Rattle.hack_first.proofs.NamedTrees.{first_functions, unit_functions}
 use Rattle.hack_first.proofs.FirstLaw.{declared_are_units, units_are_first}
 use Rattle.hack_first.proofs.TokensRead.{units_are_declared}
 
@@ -34,8 +34,8 @@ record IsRead (names : List (List ℕ)) (bytes : List ℕ) (tree : FileTree) : T
   all : rest.left ≡ []
   units : unit_functions names tree.units ≡ first_functions names declared
 
-is_read : (before names : List (List ℕ)) (bytes : List ℕ) (tree : FileTree) → IsFileTree before names bytes tree → IsRead names bytes tree
-is_read before names bytes tree h = record {
+is_read : (names : List (List ℕ)) (bytes : List ℕ) (tree : FileTree) → IsTree names bytes tree → IsRead names bytes tree
+is_read names bytes tree h = record {
   tokens = h.input.tokens;
   lexemes = h.lexemes;
   cut = h.input.cut;
@@ -68,19 +68,19 @@ ok_is {A = A} a b i j e =
     (ap (λ (p : A × Input). p.0) pair, ap (λ (p : A × Input). p.1) pair)
 
 -- a body of first units has a tree of these functions
-pub tree_of_body : (before names : List (List ℕ)) (bytes : List ℕ) (tree : FileTree) (functions : List Function) → length bytes + 1 < 2 ^ 32 → IsFileTree before names bytes tree → IsFirstBody bytes functions
+pub tree_of_body : (names : List (List ℕ)) (bytes : List ℕ) (tree : FileTree) (functions : List Function) → length bytes + 1 < 2 ^ 32 → IsTree names bytes tree → IsFirstBody bytes functions
     → unit_functions names tree.units ≡ Some functions
-tree_of_body before names bytes tree functions short h body =
-    let r = is_read before names bytes tree h in
+tree_of_body names bytes tree functions short h body =
+    let r = is_read names bytes tree h in
     let b = read_body names bytes r.tokens r.lexemes (end_of bytes) functions short r.cut r.lexed body in
     let same = ok_is b.declared r.declared b.rest r.rest (sym b.read ∙ r.read) in
     r.units ∙ ap (first_functions names) (sym same.0) ∙ b.are
 
 -- a tree of these functions is that of a body of first units
-pub body_of_tree : (before names : List (List ℕ)) (bytes : List ℕ) (tree : FileTree) (functions : List Function) → length bytes + 1 < 2 ^ 32 → IsFileTree before names bytes tree
+pub body_of_tree : (names : List (List ℕ)) (bytes : List ℕ) (tree : FileTree) (functions : List Function) → length bytes + 1 < 2 ^ 32 → IsTree names bytes tree
     → unit_functions names tree.units ≡ Some functions → IsFirstBody bytes functions
-body_of_tree before names bytes tree functions short h are =
-    let r = is_read before names bytes tree h in
+body_of_tree names bytes tree functions short h are =
+    let r = is_read names bytes tree h in
     (r.tokens, r.cut, declared_are_units names bytes r.tokens r.lexemes (end_of bytes) functions r.declared r.rest short r.cut r.lexed r.read r.all (sym r.units ∙ are))
 
 no_err : {A B : Type 0} (a : A) (stop : B) → ◌≡◌ {A = Result A B} (Ok a) (Err stop) → ⊥

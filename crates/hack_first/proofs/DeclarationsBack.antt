@@ -1,5 +1,5 @@
 -- The tokens from which a declaration that is a first unit was read.
-use Rattle.std.proofs.Common.{◌≡◌, ℕ, List, [], ◌∷◌, ◌++◌, map, Option, Some, None, Ok, refl, sym, ap, ◌∙◌, append_assoc, subst, arith}
+use Rattle.std.proofs.Common.{◌≡◌, ℕ, List, [], ◌∷◌, ◌++◌, map, Option, Some, None, option_map, Ok, refl, sym, ap, ◌∙◌, append_assoc, subst, arith}
 use Rattle.std.proofs.lemmas.Bool.{eqb-true}
 use Rattle.hack_types.specs.declared.place.Place.{Place}
 use Rattle.hack_lexer.specs.declared.kind.TokenKind.TheVariants as kind
@@ -25,9 +25,12 @@ use Rattle.hack_parse_stmt.specs.Statements.{begins_statement, statements, block
 use Rattle.hack_parse_decl.specs.Files.{absolute}
 use Rattle.hack_parse_decl.specs.Declarations.{type_read, name_read, attributes_if_any, type_parameters_if_any, default_value, signature, types_behind, members, interface_members, class_modifiers, extends_if_any, bound_if_any, enum_cases, function, class, interface, trait_unit, enum_unit, alias, constant, declaration_by, declared, declaration}
 use Rattle.hack_first.specs.declared.unit.Primitive.{Primitive}
-use Rattle.hack_first.specs.Functions.{Function, Value}
+use Rattle.hack_first.specs.declared.unit.Returned.{Returned}
+use Rattle.hack_first.specs.Functions.{Function, Value, named, value_of as value_told, function_of}
 use Rattle.hack_first.specs.FirstUnits.{name as name_form, mark as mark_form, keyword as keyword_form, opening, closing, IsSpelled}
-use Rattle.hack_first.specs.FirstTrees.{named, result_of, returned, function_by, first_of}
+use Rattle.hack_first.specs.FirstTrees.{result_of, unit_by}
+use Rattle.hack_first.specs.FirstTrees as trees
+use Rattle.hack_first.proofs.NamedTrees.{told, returned, first_of, function_at}
 use Rattle.hack_first.proofs.Gives.{steps, same_value, same_rest, same_first, Always, always_then, always_is, Took, token_takes, expect_takes, Each, many_each}
 use Rattle.hack_first.proofs.RowsBack.{form, form_of_mark, form_of_kind, form_of_name, function_row}
 use Rattle.hack_first.proofs.StatementsBack.{statement_back}
@@ -93,7 +96,7 @@ body_back names i rest body v some h =
 
 -- ---- a function
 
--- the lexemes of a first unit, and the places of its first token and its value
+-- the lexemes of a first unit, and the places of its first token, its name and its value
 pub record UnitBack (names : List (List ℕ)) (i rest : Input) (start : Place) (f : Function) : Type 0 where
   pub front : List Lexeme
   pub value : List Lexeme
@@ -103,36 +106,39 @@ pub record UnitBack (names : List (List ℕ)) (i rest : Input) (start : Place) (
   pub spells : IsSpelled f.value (map (form names) value)
   pub closes : map (form names) back ≡ closing
   pub first : Lexeme
+  pub second : Lexeme
   pub others : List Lexeme
-  pub front_is : front ≡ first ∷ others
+  pub front_is : front ≡ first ∷ second ∷ others
+  pub named_at : f.name_at ≡ absolute start (relative i.start second.at)
   pub value_first : Lexeme
   pub more : List Lexeme
   pub value_is : value ≡ value_first ∷ more
   pub placed : f.at ≡ absolute start (relative i.start value_first.at)
 
 -- what a function tells of its parts
-record FunctionParts (name : List ℕ) (start : Place) (result : Option Primitive) (value : Option (Value × Place)) (f : Function) : Type 0 where
+record FunctionParts (names : List (List ℕ)) (start : Place) (name : DeclaredName) (result : Option Primitive) (value : Option (Returned × Place)) (f : Function) : Type 0 where
   p : Primitive
   v : Value × Place
   is_result : result ≡ Some p
-  is_value : value ≡ Some v
-  is : record { name = name; result = p; value = v.0; at = absolute start v.1 } ≡ f
+  is_value : told names value ≡ Some v
+  is : function_at names start name p v ≡ f
 
 -- a function has a result type and a value
-function_parts : (name : List ℕ) (start : Place) (result : Option Primitive) (value : Option (Value × Place)) (f : Function) → function_by name start result value ≡ Some f → FunctionParts name start result value f
-function_parts name start (Some p) (Some v) f e = record { p = p; v = v; is_result = refl; is_value = refl; is = cc }
-function_parts name start (Some p) None f e = absurd cc
-function_parts name start None value f e = absurd cc
+function_parts : (names : List (List ℕ)) (start : Place) (name : DeclaredName) (result : Option Primitive) (value : Option (Returned × Place)) (f : Function) →
+    option_map (function_of names) (unit_by start name result value) ≡ Some f → FunctionParts names start name result value f
+function_parts names start name (Some p) (Some v) f e = record { p = p; v = (value_told names v.0, v.1); is_result = refl; is_value = refl; is = cc }
+function_parts names start name (Some p) None f e = absurd cc
+function_parts names start name None value f e = absurd cc
 
 -- a first unit has no attributes
 record TreeParts (names : List (List ℕ)) (start : Place) (before : List Attribute) (callable : Callable) (body : List Stmt) (f : Function) : Type 0 where
   none : before ≡ []
-  parts : FunctionParts (named names callable.name.name) start (result_of callable.type_parameters callable.parameters callable.result) (returned names body) f
+  parts : FunctionParts names start callable.name (result_of callable.type_parameters callable.parameters callable.result) (trees.returned body) f
 
 -- a function that is a first unit has no attributes
 tree_parts : (names : List (List ℕ)) (start : Place) (before : List Attribute) (callable : Callable) (body : List Stmt) (f : Function) → first_of names start (unit.Function before callable body) ≡ Some f →
     TreeParts names start before callable body f
-tree_parts names start [] callable body f e = record { none = refl; parts = function_parts _ start _ _ f e }
+tree_parts names start [] callable body f e = record { none = refl; parts = function_parts names start callable.name _ _ f e }
 tree_parts names start (a ∷ before) callable body f e = absurd cc
 
 -- the tree is no first unit
@@ -165,7 +171,7 @@ function_back names before i rest start tree f some at h =
     let end : s4.mid ≡ rest = same_rest made tree s4.mid rest s4.others in
     let t = tree_parts names start before s3.value s4.value f (ap (first_of names start) is ∙ some) in
     let p = t.parts in
-    let g : Function = record { name = named names s3.value.name.name; result = p.p; value = p.v.0; at = absolute start p.v.1 } in
+    let g : Function = function_at names start s3.value.name p.p p.v in
     let k0 = token_takes i s1.value s1.mid s1.first in
     let k1 = expect_takes Name s1.mid s5.value s5.mid s5.first in
     let mid_is : s5.mid ≡ s2.mid = same_rest (declared_name s5.value) s2.value s5.mid s2.mid s5.others in
@@ -173,7 +179,10 @@ function_back names before i rest start tree f some at h =
     let sig = signature_back names s2.value s2.mid s3.mid s3.value p.p p.is_result s3.first in
     let body = body_back names s3.mid rest s4.value p.v p.is_value (s4.first ∙ (λ n. Ok (s4.value, end n))) in
     let b = sig.back in
-    let id : s3.value.name.name ≡ k1.l.name = ap (λ (n : DeclaredName). n.name) (sig.name_is ∙ sym name_is) ∙ ap (λ (l : Lexeme). l.name) k1.is in
+    let name_so : s3.value.name ≡ declared_name s5.value = sig.name_is ∙ sym name_is in
+    let at_so : s3.value.name.at ≡ relative i.start k1.l.at =
+    ap (λ (n : DeclaredName). n.at) name_so ∙ ap (λ (l : Lexeme). l.at) k1.is ∙ ap (λ place. relative place k1.l.at) k0.took.start in
+    let id : s3.value.name.name ≡ k1.l.name = ap (λ (n : DeclaredName). n.name) name_so ∙ ap (λ (l : Lexeme). l.name) k1.is in
     let is0 = form_of_kind names (kind.Keyword keyword.Function) k0.l (ap next_kind (sym k0.took.parts) ∙ at) (omega arith) in
     let is1 : form names k1.l ≡ name_form g.name = form_of_name names k1.l (eqb-true _ _ k1.fits_so) ∙ ap (λ id. name_form (named names id)) (sym id) in
     let front : List Lexeme = k0.l ∷ k1.l ∷ b.l2 ∷ b.l3 ∷ b.l4 ∷ b.l5 ∷ body.opens ∷ body.returns ∷ [] in
@@ -193,8 +202,10 @@ function_back names before i rest start tree f some at h =
       spells = body.spells;
       closes = λ n. body.is_end n ∷ body.is_close n ∷ [];
       first = k0.l;
-      others = k1.l ∷ b.l2 ∷ b.l3 ∷ b.l4 ∷ b.l5 ∷ body.opens ∷ body.returns ∷ [];
+      second = k1.l;
+      others = b.l2 ∷ b.l3 ∷ b.l4 ∷ b.l5 ∷ body.opens ∷ body.returns ∷ [];
       front_is = refl;
+      named_at = ap (absolute start) at_so;
       value_first = body.first;
       more = body.more;
       value_is = refl;
@@ -248,6 +259,18 @@ starting_from i (l ∷ ls) t mid here e =
     let same : l ≡ t = same_value l t (record i { start = l.at }) mid e in
     record { more = ls; parts = here ∙ ap (λ x. x ∷ ls) same; is = sym (same_rest l t (record i { start = l.at }) mid e) ∙ ap (λ (x : Lexeme). record i { start = x.at }) same }
 
+-- the first token of a declaration is the next one
+pub declaration_starts : (i rest : Input) (d : Declared) → declaration i ≡ Ok (d, rest) → (more : List Lexeme) × (i.left ≡ d.first ∷ more)
+unfolding declaration starting
+declaration_starts i rest d h =
+    let s1 = steps (starting i) _ d rest h in
+    let s2 = steps (attributes_if_any s1.mid) _ d rest s1.others in
+    let s3 = steps (declared s2.value s2.mid) _ d rest s2.others in
+    let made : Declared = record { first = s1.value; tree = s3.value; behind = s3.mid.behind } in
+    let is : made ≡ d = same_value made d s3.mid rest s3.others in
+    let st = starting_from i i.left s1.value s1.mid refl s1.first in
+    (st.more, st.parts ∙ ap (λ (x : Declared). x.first ∷ st.more) is)
+
 -- the lexemes of a declaration that is a first unit
 pub record DeclarationBack (names : List (List ℕ)) (i rest : Input) (f : Function) : Type 0 where
   pub front : List Lexeme
@@ -258,8 +281,10 @@ pub record DeclarationBack (names : List (List ℕ)) (i rest : Input) (f : Funct
   pub spells : IsSpelled f.value (map (form names) value)
   pub closes : map (form names) back ≡ closing
   pub first : Lexeme
+  pub second : Lexeme
   pub others : List Lexeme
-  pub front_is : front ≡ first ∷ others
+  pub front_is : front ≡ first ∷ second ∷ others
+  pub named_at : f.name_at ≡ absolute first.at (relative first.at second.at)
   pub value_first : Lexeme
   pub more : List Lexeme
   pub value_is : value ≡ value_first ∷ more
@@ -283,8 +308,8 @@ declaration_back names i rest d f some h =
     let mid_is : s2.mid ≡ record i { start = s1.value.at } = here ∙ st.is in
     let left : s2.mid.left ≡ i.left = ap (λ (j : Input). j.left) mid_is in
     let parts : i.left ≡ ((u.front ++ u.value) ++ u.back) ++ rest.left = sym left ∙ u.parts in
-    let both : s1.value ∷ st.more ≡ u.first ∷ ((u.others ++ u.value) ++ u.back) ++ rest.left = sym st.parts ∙ parts ∙ ap (λ ls. ((ls ++ u.value) ++ u.back) ++ rest.left) u.front_is in
-    let first : s1.value ≡ u.first = same_first s1.value u.first st.more (((u.others ++ u.value) ++ u.back) ++ rest.left) both in
+    let both : s1.value ∷ st.more ≡ u.first ∷ (((u.second ∷ u.others) ++ u.value) ++ u.back) ++ rest.left = sym st.parts ∙ parts ∙ ap (λ ls. ((ls ++ u.value) ++ u.back) ++ rest.left) u.front_is in
+    let first : s1.value ≡ u.first = same_first s1.value u.first st.more ((((u.second ∷ u.others) ++ u.value) ++ u.back) ++ rest.left) both in
     let start : s2.mid.start ≡ u.first.at = ap (λ (j : Input). j.start) mid_is ∙ ap (λ (l : Lexeme). l.at) first in
     record {
       front = u.front;
@@ -295,8 +320,10 @@ declaration_back names i rest d f some h =
       spells = u.spells;
       closes = u.closes;
       first = u.first;
+      second = u.second;
       others = u.others;
       front_is = u.front_is;
+      named_at = u.named_at ∙ (λ n. absolute (first n).at (relative (start n) u.second.at));
       value_first = u.value_first;
       more = u.more;
       value_is = u.value_is;

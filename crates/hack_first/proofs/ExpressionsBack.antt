@@ -23,7 +23,8 @@ use Rattle.hack_parse_expr.specs.Rows.{sees, chain, tested as tested_tree, postf
 use Rattle.hack_parse_expr.specs.Parsers.{Outcome, Parser, and_then, token, expect, place}
 use Rattle.hack_parse_expr.specs.Expressions.{begins_operated, expression_if_any, primary, suffixes, suffix, postfix, type_tests, type_test, tested, powers, operands, unary, operated_by, operated, further, operations, at_level, product, sum, relation, equality, bit_and, bit_xor, bit_or, logical_and, logical_or, coalesce, branches, conditional, assigned_by, whole, nests}
 use Rattle.hack_first.specs.Functions.{Value}
-use Rattle.hack_first.specs.FirstTrees.{ExprLayer, value_in, value_of}
+use Rattle.hack_first.specs.FirstTrees.{ExprLayer}
+use Rattle.hack_first.proofs.NamedTrees.{value_in, value_of}
 use Rattle.hack_first.proofs.Gives.{steps, same_value, same_rest, Always, always_then, always_is, place_takes, Each, many_each}
 
 -- ---- what is no value

@@ -15,9 +15,10 @@ use Rattle.hack_parse_expr.specs.Parsers.{at_front}
 use Rattle.hack_parse_decl.specs.Lexemes.{spelled, IsIdOf, IsNamed, IsLexeme, AreLexemes}
 use Rattle.hack_parse_decl.specs.Files.{absolute, unit_of}
 use Rattle.hack_parse_decl.specs.Declarations.{declaration, declarations}
-use Rattle.hack_first.specs.Functions.{Function}
-use Rattle.hack_first.specs.FirstUnits.{Lexeme as Form, counted_text, lexeme, IsSpelled, BeginsAt, IsUnit, AreUnits}
-use Rattle.hack_first.specs.FirstTrees.{named, first_of, and_more, first_functions, unit_functions}
+use Rattle.hack_first.specs.Functions.{Function, named}
+use Rattle.hack_first.specs.FirstUnits.{Lexeme as Form, counted_text, lexeme, IsSpelled, BeginsAt, SecondAt, IsUnit, AreUnits}
+use Rattle.hack_first.specs.FirstTrees.{and_more}
+use Rattle.hack_first.proofs.NamedTrees.{first_of, first_functions, unit_functions}
 use Rattle.hack_lexer.proofs.InOrder.{StandInOrder, in_order}
 use Rattle.hack_lexer.proofs.SameKind.{one_kind}
 use Rattle.hack_first.proofs.PlacesKept.{kept_in}
@@ -85,6 +86,21 @@ first_token names bytes [] [] l more h e = absurd cc
 first_token names bytes [] (x ∷ ls) l more h e = absurd h
 first_token names bytes (t ∷ tokens) [] l more h e = absurd h
 
+-- the first two tokens, and where they stand
+record TwoTokens (bytes : List ℕ) (tokens : List Token) (l m : Lexeme) : Type 0 where
+  t : Token
+  second : Token
+  others : List Token
+  parts : tokens ≡ t ∷ second ∷ others
+  at : l.at ≡ place_of bytes t.at
+  second_at : m.at ≡ place_of bytes second.at
+
+-- the first two lexemes stand where the first two tokens do
+two_tokens : (names : List (List ℕ)) (bytes : List ℕ) (tokens : List Token) (l m : Lexeme) (more : List Lexeme) → AreLexemes names bytes tokens (l ∷ m ∷ more) → TwoTokens bytes tokens l m
+two_tokens names bytes (t ∷ u ∷ tokens) l m more h = record { t = t; second = u; others = tokens; parts = refl; at = h.0.at; second_at = h.1.0.at }
+two_tokens names bytes (t ∷ []) l m more h = absurd h.1
+two_tokens names bytes [] l m more h = absurd h
+
 -- ---- units
 
 -- the tokens of a unit, and those behind it
@@ -103,14 +119,18 @@ unit_tokens names bytes from tokens i rest f short lexed stand b =
     let p2 = token_parts names bytes p1.front (b.front ++ b.value) b.back p1.fronts in
     let p3 = token_parts names bytes p2.front b.front b.value p2.fronts in
     let whole : p1.front ≡ (p3.front ++ p3.back) ++ p2.back = p2.parts ∙ ap (λ ts. ts ++ p2.back) p3.parts in
-    let t0 = first_token names bytes p3.front b.front b.first b.others p3.fronts b.front_is in
+    let t0 = two_tokens names bytes p3.front b.first b.second b.others (subst (AreLexemes names bytes p3.front) b.front_is p3.fronts) in
     let t1 = first_token names bytes p3.back b.value b.value_first b.more p3.backs b.value_is in
     let tail : List Token = t1.others ++ (p2.back ++ p1.back) in
-    let tokens_are : tokens ≡ t0.t ∷ t0.others ++ t1.t ∷ tail =
+    let between : List Token = t0.second ∷ t0.others in
+    let tokens_are : tokens ≡ t0.t ∷ between ++ t1.t ∷ tail =
     p1.parts ∙ ap (λ ts. ts ++ p1.back) whole ∙ (λ k. ((t0.parts k ++ t1.parts k) ++ p2.back) ++ p1.back)
-    ∙ append_assoc ((t0.t ∷ t0.others) ++ (t1.t ∷ t1.others)) p2.back p1.back ∙ append_assoc (t0.t ∷ t0.others) (t1.t ∷ t1.others) (p2.back ++ p1.back) in
-    let stand_so : StandInOrder bytes from (t0.t ∷ t0.others ++ t1.t ∷ tail) = subst (StandInOrder bytes from) tokens_are stand in
-    let order : t0.t.at ≤ t1.t.at = omega (arith, stands_later bytes (t0.t.at + t0.t.len) t0.others t1.t tail stand_so.3) in
+    ∙ append_assoc ((t0.t ∷ between) ++ (t1.t ∷ t1.others)) p2.back p1.back ∙ append_assoc (t0.t ∷ between) (t1.t ∷ t1.others) (p2.back ++ p1.back) in
+    let stand_so : StandInOrder bytes from (t0.t ∷ between ++ t1.t ∷ tail) = subst (StandInOrder bytes from) tokens_are stand in
+    let order : t0.t.at ≤ t1.t.at = omega (arith, stands_later bytes (t0.t.at + t0.t.len) between t1.t tail stand_so.3) in
+    let name_order : t0.t.at ≤ t0.second.at = omega (arith, stand_so.3.0) in
+    let named_at : f.name_at ≡ place_of bytes t0.second.at =
+    b.named_at ∙ (λ k. absolute (t0.at k) (relative (t0.at k) (t0.second_at k))) ∙ kept_in bytes t0.t.at t0.second.at short name_order in
     let at : f.at ≡ place_of bytes t1.t.at = b.placed ∙ (λ k. absolute (t0.at k) (relative (t0.at k) (t1.at k))) ∙ kept_in bytes t0.t.at t1.t.at short order in
     record {
       front = p1.front;
@@ -122,6 +142,7 @@ unit_tokens names bytes from tokens i rest f short lexed stand b =
         back = p2.back;
         parts = whole;
         opens = forms_are names bytes p3.front b.front p3.fronts ∙ b.opens;
+        named = subst (λ ts. SecondAt bytes ts f.name_at) (sym t0.parts) named_at;
         returns = subst (IsSpelled f.value) (sym (forms_are names bytes p3.back b.value p3.backs)) b.spells;
         placed = subst (λ ts. BeginsAt bytes ts f.at) (sym t1.parts) at;
         closes = forms_are names bytes p2.back b.back p2.backs ∙ b.closes;

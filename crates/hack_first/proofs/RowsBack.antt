@@ -24,7 +24,8 @@ use Rattle.hack_parse_expr.specs.Rows.{fits}
 use Rattle.hack_first.specs.declared.unit.Primitive.{Primitive}
 use Rattle.hack_first.specs.declared.unit.Primitive.TheVariants.{Int, Str}
 use Rattle.hack_first.specs.FirstUnits.{Lexeme as Form, counted_text, mark as mark_form, type_keyword}
-use Rattle.hack_first.specs.FirstTrees.{named, primitive_of}
+use Rattle.hack_first.specs.Functions.{named}
+use Rattle.hack_first.specs.FirstTrees.{primitive_of}
 
 -- ---- rows
 

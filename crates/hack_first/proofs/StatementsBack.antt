@@ -29,7 +29,8 @@ use Rattle.hack_parse_stmt.specs.Statements.{variables, block, bracketed, block_
 use Rattle.hack_first.specs.declared.unit.Primitive.{Primitive}
 use Rattle.hack_first.specs.Functions.{Value}
 use Rattle.hack_first.specs.FirstUnits.{mark as mark_form, keyword as keyword_form, type_keyword, IsSpelled}
-use Rattle.hack_first.specs.FirstTrees.{TypeLayer, StmtLayer, primitive_of, primitive_in, value_of, returned_in}
+use Rattle.hack_first.specs.FirstTrees.{TypeLayer, StmtLayer, primitive_of, primitive_in}
+use Rattle.hack_first.proofs.NamedTrees.{value_of, returned_in}
 use Rattle.hack_first.proofs.Layers.{out_return, out_primitive}
 use Rattle.hack_first.proofs.Gives.{steps, same_value, same_rest, Always, always_then, always_is, Took, token_takes, expect_takes}
 use Rattle.hack_first.proofs.RowsBack.{form, form_of_mark, form_of_kind, primitive_row, return_row}

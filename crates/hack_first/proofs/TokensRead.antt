@@ -2,6 +2,7 @@
 use Rattle.std.proofs.Common.{◌≡◌, ℕ, zero, suc, ◌+◌, ◌^◌, ◌<◌, ◌≤◌, Bool, true, false, List, [], ◌∷◌, ◌++◌, length, Some, Ok, refl, sym, ap, ◌∙◌, append_assoc, subst, arith}
 use Rattle.std.proofs.lemmas.List.{append-nil, length-append}
 use Rattle.hack_types.specs.declared.place.Place.{Place}
+use Rattle.hack_types.specs.Places.{place_of}
 use Rattle.hack_lexer.specs.declared.kind.TokenKind.TheVariants as kind
 use Rattle.hack_lexer.specs.declared.kind.Mark.TheVariants as marks
 use Rattle.hack_lexer.specs.declared.kind.Keyword.TheVariants as keywords
@@ -18,8 +19,8 @@ use Rattle.hack_parse_decl.specs.Lexemes.{AreLexemes}
 use Rattle.hack_parse_decl.specs.Files.{absolute}
 use Rattle.hack_parse_decl.specs.Declarations.{declaration, declarations}
 use Rattle.hack_first.specs.Functions.{Function}
-use Rattle.hack_first.specs.FirstUnits.{type_keyword, IsUnit, AreUnits}
-use Rattle.hack_first.specs.FirstTrees.{first_of, first_functions}
+use Rattle.hack_first.specs.FirstUnits.{type_keyword, SecondAt, IsUnit, AreUnits}
+use Rattle.hack_first.proofs.NamedTrees.{first_of, first_functions}
 use Rattle.hack_lexer.proofs.InOrder.{StandInOrder, in_order}
 use Rattle.hack_first.proofs.PlacesKept.{kept_in}
 use Rattle.hack_first.proofs.UnitReads.{as_kind, ReadsValue, statement_of, block_of, declaration_of, declared_of, first_is}
@@ -44,7 +45,7 @@ pub record IsDeclared (names : List (List ℕ)) (bytes : List ℕ) (rest : List 
   pub is : first_of names d.first.at d.tree ≡ Some f
 
 -- the lexemes of a unit and of what follows it
-abbrev unit_lexemes : Function → {names : List (List ℕ)} {bytes : List ℕ} {f : Function} {t : Token} {ls lv lb : List Lexeme} → OpeningLexemes names bytes f t ls → ReadsValue names f.value lv → ClosingLexemes lb → List Lexeme → List Lexeme
+abbrev unit_lexemes : Function → {names : List (List ℕ)} {bytes : List ℕ} {f : Function} {t second : Token} {ls lv lb : List Lexeme} → OpeningLexemes names bytes f t second ls → ReadsValue names f.value lv → ClosingLexemes lb → List Lexeme → List Lexeme
 unit_lexemes g o v c rest =
     as_kind (kind.Keyword keywords.Function) o.l0 ∷ as_kind kind.Name o.l1 ∷ as_kind (kind.Mark marks.OpenParen) o.l2 ∷ as_kind (kind.Mark marks.CloseParen) o.l3 ∷ as_kind (kind.Mark marks.Colon) o.l4
     ∷ as_kind (kind.Keyword (type_keyword g.result)) o.l5 ∷ as_kind (kind.Mark marks.OpenBrace) o.l6 ∷ as_kind (kind.Keyword keywords.Return) o.l7
@@ -93,7 +94,11 @@ unit_declared names bytes from front rest f lexemes i short u lexed stand left =
     let order : opens.t0.at ≤ at.0.at = omega (arith, stands_later bytes (opens.t0.at + opens.t0.len) between at.0 others stand_so.3) in
     let place : absolute start (relative start v.first.at) ≡ f.at =
     (λ k. absolute (o.at k) (relative (o.at k) (at.3 k))) ∙ kept_in bytes opens.t0.at at.0.at short order ∙ sym at.4 in
-    let is : first_of names start d.tree ≡ Some f = first ∙ ap Some (λ k. record { name = o.named_so k; result = f.result; value = f.value; at = place k }) in
+    let named_at : f.name_at ≡ place_of bytes opens.t1.at = subst (λ ts. SecondAt bytes ts f.name_at) opens.parts u.named in
+    let name_order : opens.t0.at ≤ opens.t1.at = omega (arith, stand_so.3.0) in
+    let name_place : absolute start (relative start o.l1.at) ≡ f.name_at =
+    (λ k. absolute (o.at k) (relative (o.at k) (o.name_at k))) ∙ kept_in bytes opens.t0.at opens.t1.at short name_order ∙ sym named_at in
+    let is : first_of names start d.tree ≡ Some f = first ∙ ap Some (λ k. record { name = o.named_so k; name_at = name_place k; result = f.result; value = f.value; at = place k }) in
     record { lexemes = whole.back; lexed = whole.backs; d = d; next = next; reads = reads; left = refl; begins = begins; shorter = shorter; is = is }
 
 -- ---- all units

@@ -10,10 +10,11 @@ use Rattle.hack_tree.specs.declared.statement.Stmt.{Stmt}
 use Rattle.hack_tree.specs.declared.declaration.UnitTree.{UnitTree}
 use Rattle.hack_first.specs.declared.unit.Primitive.{Primitive}
 use Rattle.hack_first.specs.declared.unit.Primitive.TheVariants.{Int, Str}
-use Rattle.hack_parse_decl.specs.Files.{absolute}
-use Rattle.hack_first.specs.Functions.{Value, OfType, OfCall}
+use Rattle.hack_first.specs.Functions.{Value, OfType, OfCall, named}
 use Rattle.hack_first.specs.FirstUnits.{type_keyword}
-use Rattle.hack_first.specs.FirstTrees.{named, literal_of, at_place, value_in, value_of, first_of}
+use Rattle.hack_first.specs.FirstTrees.{literal_of, at_place}
+use Rattle.hack_first.specs.FirstTrees as trees
+use Rattle.hack_first.proofs.NamedTrees.{told, value_in, value_of, first_of, function_at, function_told}
 use Rattle.hack_first.proofs.Layers.{out_literal, out_call, out_return, out_primitive}
 use Rattle.hack_parse_expr.specs.Run.{deepest}
 use Rattle.hack_tree.specs.declared.expression.Literal.{Literal}
@@ -85,7 +86,7 @@ pub record ReadsValue (names : List (List ℕ)) (value : Value) (lexemes : List 
   pub is : (start : Place) → value_of names (tree start) ≡ Some (value, relative start first.at)
 
 -- the value of a literal
-literal_value : (names : List (List ℕ)) (at : Place) (l : Literal) → value_of names (e.Literal at l) ≡ at_place at (literal_of l)
+literal_value : (names : List (List ℕ)) (at : Place) (l : Literal) → value_of names (e.Literal at l) ≡ told names (at_place at (literal_of l))
 literal_value names at l = ap (value_in names) (out_literal at l)
 
 -- an int is read as a value
@@ -183,9 +184,9 @@ declaration_of Str i j t0 t1 t2 t3 t4 t5 read body h = rw h refl
 
 -- such a tree is a first unit
 pub first_is : (names : List (List ℕ)) (p : Primitive) (start : Place) (name type : Lexeme) (at : Place) (value : Expr) (v : Value × Place) → value_of names value ≡ Some v →
-    first_of names start (tree_of p start name type (stmt.Return at (Some value) ∷ [])) ≡ Some (record { name = named names name.name; result = p; value = v.0; at = absolute start v.1 })
+    first_of names start (tree_of p start name type (stmt.Return at (Some value) ∷ [])) ≡ Some (function_at names start (record { at = relative start name.at; name = name.name }) p v)
 unfolding tree_of tree_primitive
 first_is names Int start name type at value v h =
-    rw (out_primitive (relative start type.at) primitive.Int, out_return at (Some value), h) refl
+    rw (out_primitive (relative start type.at) primitive.Int, out_return at (Some value)) (function_told names start _ Int (trees.value_of value) v h)
 first_is names Str start name type at value v h =
-    rw (out_primitive (relative start type.at) primitive.String, out_return at (Some value), h) refl
+    rw (out_primitive (relative start type.at) primitive.String, out_return at (Some value)) (function_told names start _ Str (trees.value_of value) v h)

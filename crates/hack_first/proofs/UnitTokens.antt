@@ -14,9 +14,8 @@ use Rattle.hack_lexer.specs.Tokens.{text_of}
 use Rattle.hack_parse_expr.specs.declared.lexeme.Lexeme.{Lexeme}
 use Rattle.hack_parse_decl.specs.Lexemes.{spelled, IsIdOf, IsNamed, IsLexeme, AreLexemes}
 use Rattle.hack_first.specs.declared.unit.Primitive.TheVariants.{Int, Str}
-use Rattle.hack_first.specs.Functions.{Function, Value, OfType, OfCall}
+use Rattle.hack_first.specs.Functions.{Function, Value, OfType, OfCall, named}
 use Rattle.hack_first.specs.FirstUnits.{Lexeme as Form, counted_text, lexeme, name, mark, keyword, type_keyword, opening, closing, IsSpelled, BeginsAt}
-use Rattle.hack_first.specs.FirstTrees.{named}
 use Rattle.hack_lexer.proofs.InOrder.{StandInOrder}
 use Rattle.hack_lexer.proofs.SameKind.{one_kind}
 use Rattle.hack_first.proofs.UnitReads.{as_kind, ReadsValue, int_value, text_value, key_text_value, call_value}
@@ -145,7 +144,7 @@ closed bytes (a ∷ b ∷ []) closes = record { t0 = a; t1 = b; parts = refl; is
 closed bytes back closes = absurd cc
 
 -- the lexemes of what opens a unit
-pub record OpeningLexemes (names : List (List ℕ)) (bytes : List ℕ) (f : Function) (first : Token) (lexemes : List Lexeme) : Type 0 where
+pub record OpeningLexemes (names : List (List ℕ)) (bytes : List ℕ) (f : Function) (first second : Token) (lexemes : List Lexeme) : Type 0 where
   pub l0 : Lexeme
   pub l1 : Lexeme
   pub l2 : Lexeme
@@ -157,11 +156,12 @@ pub record OpeningLexemes (names : List (List ℕ)) (bytes : List ℕ) (f : Func
   pub parts : lexemes ≡ as_kind (kind.Keyword keywords.Function) l0 ∷ as_kind kind.Name l1 ∷ as_kind (kind.Mark marks.OpenParen) l2 ∷ as_kind (kind.Mark marks.CloseParen) l3 ∷ as_kind (kind.Mark marks.Colon) l4
       ∷ as_kind (kind.Keyword (type_keyword f.result)) l5 ∷ as_kind (kind.Mark marks.OpenBrace) l6 ∷ as_kind (kind.Keyword keywords.Return) l7 ∷ []
   pub at : l0.at ≡ place_of bytes first.at
+  pub name_at : l1.at ≡ place_of bytes second.at
   pub named_so : named names l1.name ≡ f.name
 
 -- what opens a unit, lexeme by lexeme
 pub opening_lexemes : (names : List (List ℕ)) (bytes : List ℕ) (f : Function) (front : List Token) (o : IsOpening bytes f front) (lexemes : List Lexeme) → AreLexemes names bytes front lexemes →
-    OpeningLexemes names bytes f o.t0 lexemes
+    OpeningLexemes names bytes f o.t0 o.t1 lexemes
 opening_lexemes names bytes f front o lexemes lexed =
     let all : AreLexemes names bytes (o.t0 ∷ o.t1 ∷ o.t2 ∷ o.t3 ∷ o.t4 ∷ o.t5 ∷ o.t6 ∷ o.t7 ∷ []) lexemes = subst (λ ts. AreLexemes names bytes ts lexemes) o.parts lexed in
     let m0 = more_lexemes names bytes o.t0 (o.t1 ∷ o.t2 ∷ o.t3 ∷ o.t4 ∷ o.t5 ∷ o.t6 ∷ o.t7 ∷ []) lexemes all in
@@ -199,6 +199,7 @@ opening_lexemes names bytes f front o lexemes lexed =
       l7 = m7.first;
       parts = m0.parts ∙ (λ i. k0 i ∷ p1 i);
       at = m0.is.at;
+      name_at = m1.is.at;
       named_so = of_name names bytes o.t1 m1.first f.name m1.is o.is1;
     }
 

@@ -23,9 +23,10 @@ use Rattle.hack_parse_expr.specs.Rows.{sees, begins_expression, reference_of}
 use Rattle.hack_parse_expr.specs.Parsers.{Outcome, Parser, and_then, token, expect}
 use Rattle.hack_parse_expr.specs.Expressions.{expressions, entries, field_values, arguments, scoped_member, behind_name, name, scoped_word, new_class, new, container, dict, shape, bracketed, literal_read, key_text, variable, this, primary_by, primary, nests}
 use Rattle.hack_first.specs.declared.unit.Primitive.TheVariants.{Int, Str}
-use Rattle.hack_first.specs.Functions.{Value, OfType, OfCall}
+use Rattle.hack_first.specs.Functions.{Value, OfType, OfCall, named}
 use Rattle.hack_first.specs.FirstUnits.{IsSpelled}
-use Rattle.hack_first.specs.FirstTrees.{named, literal_of, at_place, value_in, value_of}
+use Rattle.hack_first.specs.FirstTrees.{literal_of, at_place}
+use Rattle.hack_first.proofs.NamedTrees.{told, value_in, value_of}
 use Rattle.hack_first.proofs.Layers.{out_literal, out_call}
 use Rattle.hack_first.proofs.Gives.{steps, same_value, same_rest, always_then, Took, token_takes}
 use Rattle.hack_first.proofs.RowsBack.{form, form_of_kind, form_of_name, int_row, text_row, key_text_row, name_row}
@@ -61,23 +62,23 @@ one_back names i rest v l value took spells same =
     }
 
 -- a token that is told as a literal
-record LiteralBack (which : Lexeme → Literal) (i rest : Input) (v : Value × Place) : Type 0 where
+record LiteralBack (names : List (List ℕ)) (which : Lexeme → Literal) (i rest : Input) (v : Value × Place) : Type 0 where
   l : Lexeme
   t : Lexeme
   took : Took i l rest
-  told : at_place (relative i.start l.at) (literal_of (which t)) ≡ Some v
+  gives : told names (at_place (relative i.start l.at) (literal_of (which t))) ≡ Some v
 
 -- a literal was read from one token
 literal_back : (names : List (List ℕ)) (which : Lexeme → Literal) (i rest : Input) (x : Expr) (v : Value × Place) → value_of names x ≡ Some v →
-    and_then (token i) (λ t j. Ok (e.Literal t.at (which t), j)) ≡ Ok (x, rest) → LiteralBack which i rest v
+    and_then (token i) (λ t j. Ok (e.Literal t.at (which t), j)) ≡ Ok (x, rest) → LiteralBack names which i rest v
 literal_back names which i rest x v value h =
     let s = steps (token i) _ x rest h in
     let k = token_takes i s.value s.mid s.first in
     let end : s.mid ≡ rest = same_rest (e.Literal s.value.at (which s.value)) x s.mid rest s.others in
     let is : e.Literal s.value.at (which s.value) ≡ x = same_value (e.Literal s.value.at (which s.value)) x s.mid rest s.others in
     let at : s.value.at ≡ relative i.start k.l.at = ap (λ (t : Lexeme). t.at) k.is in
-    let told : at_place s.value.at (literal_of (which s.value)) ≡ Some v = ap (value_in names) (sym (out_literal s.value.at (which s.value))) ∙ ap (value_of names) is ∙ value in
-    record { l = k.l; t = s.value; took = subst (Took i k.l) end k.took; told = ap (λ p. at_place p (literal_of (which s.value))) (sym at) ∙ told }
+    let gives : told names (at_place s.value.at (literal_of (which s.value))) ≡ Some v = ap (value_in names) (sym (out_literal s.value.at (which s.value))) ∙ ap (value_of names) is ∙ value in
+    record { l = k.l; t = s.value; took = subst (Took i k.l) end k.took; gives = ap (λ p. told names (at_place p (literal_of (which s.value)))) (sym at) ∙ gives }
 
 -- the kind of the token that was taken
 kind_taken : (i rest : Input) (l : Lexeme) (k : TokenKind) → Took i l rest → next_kind i.left ≡ Some k → ◌≡◌ {A = Option TokenKind} (Some l.kind) (Some k)
@@ -92,7 +93,7 @@ call_of names depth nested i mid j rest l x v [] took is_name value reads h =
     let b = no_arguments names depth nested mid j reads in
     let end : j ≡ rest = same_rest (e.Call (relative i.start l.at) l.name []) x j rest h in
     let is : e.Call (relative i.start l.at) l.name [] ≡ x = same_value (e.Call (relative i.start l.at) l.name []) x j rest h in
-    let told : ◌≡◌ {A = Option (Value × Place)} (Some (OfCall (named names l.name), relative i.start l.at)) (Some v) = ap (value_in names) (sym (out_call (relative i.start l.at) l.name [])) ∙ ap (value_of names) is ∙ value in
+    let gives : ◌≡◌ {A = Option (Value × Place)} (Some (OfCall (named names l.name), relative i.start l.at)) (Some v) = ap (value_in names) (sym (out_call (relative i.start l.at) l.name [])) ∙ ap (value_of names) is ∙ value in
     let same : (OfCall (named names l.name), relative i.start l.at) ≡ v = cc in
     let spells : IsSpelled (OfCall (named names l.name)) (form names l ∷ form names b.opens ∷ form names b.closes ∷ []) = λ k. form_of_name names l is_name k ∷ b.is_open k ∷ b.is_close k ∷ [] in
     record {
@@ -126,8 +127,8 @@ literal_never : (names : List (List ℕ)) (which : Literal) (i rest : Input) (x 
 unfolding literal_read
 literal_never names which i rest x v none value h =
     let b = literal_back names (λ t. which) i rest x v value h in
-    absurd (let no : at_place (relative i.start b.l.at) (literal_of which) ≡ None = ap (at_place (relative i.start b.l.at)) none in
-    let wrong : ◌≡◌ {A = Option (Value × Place)} (Some v) None = sym b.told ∙ no in cc)
+    absurd (let no : told names (at_place (relative i.start b.l.at) (literal_of which)) ≡ None = ap (λ l. told names (at_place (relative i.start b.l.at) l)) none in
+    let wrong : ◌≡◌ {A = Option (Value × Place)} (Some v) None = sym b.gives ∙ no in cc)
 
 -- no other row gives a value
 row_back : (names : List (List ℕ)) (depth : ℕ) (nested : Nested → Parser Expr) (r : Option PrimaryRow) (i rest : Input) (x : Expr) (v : Value × Place) → value_of names x ≡ Some v → primary_row (next_kind i.left) ≡ r →
@@ -137,15 +138,15 @@ row_back names depth nested None i rest x v value at h = absurd cc
 row_back names depth nested (Some row.Int) i rest x v value at h =
     let b = literal_back names (λ t. literal.Int) i rest x v value h in
     let f = form_of_kind names kind.Int b.l (kind_taken i rest b.l kind.Int b.took (int_row _ at)) (omega arith) in
-    one_back names i rest v b.l (OfType Int) b.took ([], ap (λ w. w ∷ []) f) b.told
+    one_back names i rest v b.l (OfType Int) b.took ([], ap (λ w. w ∷ []) f) b.gives
 row_back names depth nested (Some row.Text) i rest x v value at h =
     let b = literal_back names (λ t. literal.Text) i rest x v value h in
     let f = form_of_kind names kind.Text b.l (kind_taken i rest b.l kind.Text b.took (text_row _ at)) (omega arith) in
-    one_back names i rest v b.l (OfType Str) b.took (inl ([], ap (λ w. w ∷ []) f)) b.told
+    one_back names i rest v b.l (OfType Str) b.took (inl ([], ap (λ w. w ∷ []) f)) b.gives
 row_back names depth nested (Some row.KeyText) i rest x v value at h =
     let b = literal_back names (λ t. literal.KeyText t.name) i rest x v value h in
     let f = form_of_kind names kind.KeyText b.l (kind_taken i rest b.l kind.KeyText b.took (key_text_row _ at)) (omega arith) in
-    one_back names i rest v b.l (OfType Str) b.took (inr ([], ap (λ w. w ∷ []) f)) b.told
+    one_back names i rest v b.l (OfType Str) b.took (inr ([], ap (λ w. w ∷ []) f)) b.gives
 row_back names depth nested (Some row.Name) i rest x v value at h =
     let s = steps (token i) _ x rest h in
     let k = token_takes i s.value s.mid s.first in

@@ -1,5 +1,5 @@
--- Which trees are first units, and the functions that they are (docs/language.md, First units).
-use Rattle.std.specs.Prelude.{ℕ, List, [], ◌∷◌, Option, None, Some, slice_index_or}
+-- Which trees are first units, and which first units they are; a name is told by its id (docs/language.md, First units).
+use Rattle.std.specs.Prelude.{List, [], ◌∷◌, Option, None, Some}
 use Rattle.hack_types.specs.declared.place.Place.{Place}
 use Rattle.hack_tree.specs.declared.written_type.Primitive.{Primitive as TreePrimitive}
 use Rattle.hack_tree.specs.declared.written_type.Primitive.TheVariants as primitive
@@ -20,20 +20,18 @@ use Rattle.hack_tree.specs.declared.statement.Stmt.{Stmt, out-Stmt}
 use Rattle.hack_tree.specs.declared.statement.Stmt.TheOpen.{Stmt-F}
 use Rattle.hack_tree.specs.declared.statement.Case.{Case}
 use Rattle.hack_tree.specs.declared.statement.Catch.{Catch}
+use Rattle.hack_tree.specs.declared.declaration.DeclaredName.{DeclaredName}
 use Rattle.hack_tree.specs.declared.declaration.TypeParameter.{TypeParameter}
 use Rattle.hack_tree.specs.declared.declaration.Parameter.{Parameter}
 use Rattle.hack_tree.specs.declared.declaration.Unit.{Unit as UnitOf}
 use Rattle.hack_tree.specs.declared.declaration.UnitTree.{UnitTree}
 use Rattle.hack_tree.specs.declared.declaration.UnitTree.TheVariants as unit
-use Rattle.hack_parse_expr.specs.Symbols.{Declared}
 use Rattle.hack_parse_decl.specs.Files.{absolute}
 use Rattle.hack_first.specs.declared.unit.Primitive.{Primitive}
 use Rattle.hack_first.specs.declared.unit.Primitive.TheVariants.{Int, Str}
-use Rattle.hack_first.specs.Functions.{Function, Value, OfType, OfCall}
-
--- the text of a name
-abbrev pub named : List (List ℕ) → ℕ → List ℕ
-named names id = slice_index_or names id []
+use Rattle.hack_first.specs.declared.unit.Returned.{Returned}
+use Rattle.hack_first.specs.declared.unit.Returned.TheVariants as returns
+use Rattle.hack_first.specs.declared.unit.FirstUnit.{FirstUnit}
 
 abbrev pub primitive_of : TreePrimitive → Option Primitive
 primitive_of primitive.Int = Some Int
@@ -62,57 +60,59 @@ abbrev pub result_of : List TypeParameter → List Parameter → Option WrittenT
 result_of [] [] (Some result) = primitive_of_type result
 result_of types parameters result = None
 
-abbrev pub literal_of : Literal → Option Value
-literal_of literal.Int = Some (OfType Int)
-literal_of literal.Text = Some (OfType Str)
-literal_of (literal.KeyText name) = Some (OfType Str)
+abbrev pub literal_of : Literal → Option Returned
+literal_of literal.Int = Some (returns.Literal Int)
+literal_of literal.Text = Some (returns.Literal Str)
+literal_of (literal.KeyText name) = Some (returns.Literal Str)
 literal_of _ = None
 
--- a value and where it stands, from its first token
-abbrev pub at_place : Place → Option Value → Option (Value × Place)
+-- what is returned and where it stands, from its first token
+abbrev pub at_place : Place → Option Returned → Option (Returned × Place)
 at_place at None = None
 at_place at (Some value) = Some (value, at)
 
 -- a literal, or a call without arguments
-abbrev pub value_in : List (List ℕ) → ExprLayer → Option (Value × Place)
-value_in names (Expr-F.Literal at l) = at_place at (literal_of l)
-value_in names (Expr-F.Call at name []) = Some (OfCall (named names name), at)
-value_in names _ = None
+abbrev pub value_in : ExprLayer → Option (Returned × Place)
+value_in (Expr-F.Literal at l) = at_place at (literal_of l)
+value_in (Expr-F.Call at name []) = Some (returns.Call name, at)
+value_in _ = None
 
-abbrev pub value_of : List (List ℕ) → Expr → Option (Value × Place)
-value_of names value = value_in names (out-Expr value)
+abbrev pub value_of : Expr → Option (Returned × Place)
+value_of value = value_in (out-Expr value)
 
 -- what a return of such an expression returns
-abbrev pub returned_in : List (List ℕ) → StmtLayer → Option (Value × Place)
-returned_in names (Stmt-F.Return at (Some value)) = value_of names value
-returned_in names _ = None
+abbrev pub returned_in : StmtLayer → Option (Returned × Place)
+returned_in (Stmt-F.Return at (Some value)) = value_of value
+returned_in _ = None
 
 -- what a body returns that is one such return
-abbrev pub returned : List (List ℕ) → List Stmt → Option (Value × Place)
-returned names (only ∷ []) = returned_in names (out-Stmt only)
-returned names _ = None
+abbrev pub returned : List Stmt → Option (Returned × Place)
+returned (only ∷ []) = returned_in (out-Stmt only)
+returned _ = None
 
--- the function of this name, in a declaration that starts here
-abbrev pub function_by : List ℕ → Place → Option Primitive → Option (Value × Place) → Option Function
-function_by name start (Some result) (Some value) = Some (record { name = name; result = result; value = value.0; at = absolute start value.1 })
-function_by name start result value = None
+-- the first unit of this name, in a declaration that starts here
+abbrev pub unit_by : Place → DeclaredName → Option Primitive → Option (Returned × Place) → Option FirstUnit
+unit_by start name (Some result) (Some value) = Some (record {
+  name = name.name;
+  name_at = absolute start name.at;
+  result = result;
+  returned = value.0;
+  at = absolute start value.1;
+})
+unit_by start name result value = None
 
--- the function that a tree is, if it is a first unit; its declaration starts at this place of the file
-abbrev pub first_of : List (List ℕ) → Place → UnitTree → Option Function
-first_of names start (unit.Function [] callable body) =
-    function_by (named names callable.name.name) start (result_of callable.type_parameters callable.parameters callable.result) (returned names body)
-first_of names start _ = None
+-- the first unit that a tree is, if it is one; its declaration starts at this place of the file
+abbrev pub first_in : Place → UnitTree → Option FirstUnit
+first_in start (unit.Function [] callable body) =
+    unit_by start callable.name (result_of callable.type_parameters callable.parameters callable.result) (returned body)
+first_in start _ = None
 
-abbrev pub and_more : Option Function → Option (List Function) → Option (List Function)
-and_more (Some f) (Some functions) = Some (f ∷ functions)
+-- one more before the others, where all are there
+abbrev pub and_more : {A : Type 0} → Option A → Option (List A) → Option (List A)
+and_more (Some first) (Some others) = Some (first ∷ others)
 and_more first others = None
 
--- all the functions, if all the declarations are first units
-abbrev pub first_functions : List (List ℕ) → List Declared → Option (List Function)
-first_functions names [] = Some []
-first_functions names (d ∷ declared) = and_more (first_of names d.first.at d.tree) (first_functions names declared)
-
--- the same of declarations where they stand in a file
-abbrev pub unit_functions : List (List ℕ) → List UnitOf → Option (List Function)
-unit_functions names [] = Some []
-unit_functions names (u ∷ units) = and_more (first_of names u.start u.tree) (unit_functions names units)
+-- the first units that the declarations of a file are, if all of them are
+abbrev pub first_units : List UnitOf → Option (List FirstUnit)
+first_units [] = Some []
+first_units (u ∷ units) = and_more (first_in u.start u.tree) (first_units units)

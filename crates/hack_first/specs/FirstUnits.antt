@@ -64,13 +64,19 @@ abbrev pub BeginsAt : List ℕ → List Token → Place → Type 0
 BeginsAt bytes [] at = ⊥
 BeginsAt bytes (t ∷ ts) at = at ≡ place_of bytes t.at
 
--- the tokens are this function's, all of them
+-- the second of the tokens stands at this place
+abbrev pub SecondAt : List ℕ → List Token → Place → Type 0
+SecondAt bytes (first ∷ t ∷ ts) at = at ≡ place_of bytes t.at
+SecondAt bytes _ at = ⊥
+
+-- the tokens are this function's, all of them; its name is the second of them
 pub record IsUnit (bytes : List ℕ) (tokens : List Token) (f : Function) : Type 0 where
   pub front : List Token
   pub value : List Token
   pub back : List Token
   pub parts : tokens ≡ front ++ value ++ back
   pub opens : map (lexeme bytes) front ≡ opening f
+  pub named : SecondAt bytes front f.name_at
   pub returns : IsSpelled f.value (map (lexeme bytes) value)
   pub placed : BeginsAt bytes value f.at
   pub closes : map (lexeme bytes) back ≡ closing

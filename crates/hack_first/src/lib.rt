@@ -1,12 +1,12 @@
-//! The test for the first scripts' bodies: lists of functions without parameters that return a literal or a call.
+//! First units: functions without parameters that return a literal or a call, read off the trees of declarations.
 #![tactic(auto)]
 
+mod first;
 mod laws;
-mod parse;
 #[cfg(test)]
 mod tests;
 mod unit;
 
-pub use laws::as_trees;
-pub use parse::first_units;
+pub use first::{are_first, first_unit};
+pub use laws::{as_trees, first_units_are_units};
 pub use unit::{FirstUnit, Primitive, Returned};

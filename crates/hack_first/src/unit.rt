@@ -1,7 +1,6 @@
 // First units.
 
-use hack_base::Bytes;
-use hack_types::Place;
+use hack_types::{NameId, Place};
 
 /// A type that a first unit may name (docs/language.md, First units).
 #[derive(Clone, Copy, Debug, PartialEq, Eq)]
@@ -12,20 +11,22 @@ pub enum Primitive {
     Str,
 }
 
-/// What a first unit returns.
-#[derive(Debug, Drop)]
+/// What a first unit returns (docs/language.md, First units).
+#[derive(Clone, Copy, Debug, PartialEq, Eq)]
 pub enum Returned {
     /// A literal of this type.
     Literal(Primitive),
     /// A call of the function of this name.
-    Call(Bytes),
+    Call(NameId),
 }
 
-/// A first unit: a function without parameters whose body is one return.
-#[derive(Debug, Drop)]
+/// A first unit: a function without parameters whose body is one return (docs/language.md, First units).
+#[derive(Clone, Copy, Debug, PartialEq, Eq)]
 pub struct FirstUnit {
     /// The function's name.
-    pub name: Bytes,
+    pub name: NameId,
+    /// The place of its name in the file.
+    pub name_at: Place,
     /// The type that it states.
     pub result: Primitive,
     /// What it returns.

@@ -1,7 +1,6 @@
+pub mod Statuses
 pub mod Commands
-pub mod Reading
-pub mod Findings
-pub mod FirstScript
-pub mod Outcome
-pub mod Steps
 pub mod Session
+pub mod Outcome
+pub mod Running
+pub mod Told

@@ -1,90 +1,84 @@
--- What each status says of the input and of what was written (docs/script.md, Statuses).
-use Rattle.std.specs.Prelude.{◌≡◌, ◌⊎◌, ◌≤◌, ◌<◌, ℕ, List, [], ◌++◌, Option, None, Some, IfSome, length, drop, codes}
+-- What each status says of the script and of what was written (docs/script.md, Statuses).
+use Rattle.std.specs.Prelude.{◌≡◌, ◌≤◌, ◌-◌, ◌^◌, ℕ, Bool, true, List, [], ◌∷◌, ◌++◌, Option, None, Some, length}
 use Rattle.std.specs.Io.KnownBytes.{Appends, Consumes, IsAtEnd}
-use Rattle.hack_base.specs.Script.{Command}
-use Rattle.hack_serve.specs.FirstScript.{IsFirstScript, AreReplies}
+use Rattle.script_text.specs.Script.{Command, End, One, next_command, IsScript}
+use Rattle.script_text.specs.Whole.{StandWhole}
+use Rattle.hack_serve.specs.Session.{Session, first_session, IsReplied, AreReplied, Replies}
 use Rattle.hack_serve.specs.declared.status.Status.{Status}
-use Rattle.hack_serve.specs.declared.status.Status.TheVariants.{Done, Usage, ReadFault, WriteFault, NotBuilt, NoMemory}
+use Rattle.hack_serve.specs.declared.status.Status.TheVariants.{Done, Usage, BadScript, ReadFault, WriteFault, TooLong, NotBuilt, NoMemory}
 
--- the number that the program ends with
-abbrev pub number_of : Status → ℕ
-number_of Done = 0
-number_of Usage = 2
-number_of ReadFault = 4
-number_of WriteFault = 5
-number_of NotBuilt = 10
-number_of NoMemory = 71
+-- ---- commands that stand first
 
--- what the program says of it on standard error
-abbrev pub text_of : Status → Option (List ℕ)
-text_of Done = None
-text_of Usage = Some (codes "usage: hack_server [--workers N] [--slots N] [--heap-words N] [--edges N] [--json] [--generate N [--seed N]]")
-text_of ReadFault = Some (codes "read fault")
-text_of WriteFault = Some (codes "write fault")
-text_of NotBuilt = Some (codes "not built")
-text_of NoMemory = Some (codes "no memory")
+-- of these bytes, whose first is in this line, these commands stand first; `whole` says that nothing comes behind the bytes, and
+-- only then the last line or body may lack its LF
+abbrev pub StandFirst : Bool → ℕ → List ℕ → List (ℕ × Command) → Type 0
+StandFirst whole line bytes [] = Unit {0}
+StandFirst whole line bytes (command ∷ commands) = (after : ℕ) × (rest : List ℕ)
+    × (next_command whole line bytes ≡ One command.1 command.0 after rest) × StandFirst whole after rest commands
 
--- these bytes were taken from the source: all that it had left up to its end, or 65,537 of them
-pub record IsTaken (before now : Option (List ℕ)) (input : List ℕ) : Type 0 where
-  pub taken : Consumes before now input
-  pub some : length input ≤ 65537
-  pub all : length input < 65537 → IsAtEnd now
+-- these commands stand first in the bytes that were taken of a source in which this is left, where it tells that
+abbrev pub StandTaken : List ℕ → Option (List ℕ) → List (ℕ × Command) → Type 0
+StandTaken taken left commands = (whole : Bool) × (whole ≡ true → IsAtEnd left) × StandFirst whole 1 taken commands
 
--- where the source tells what it has left, the input is that
-abbrev pub IsInput : Option (List ℕ) → List ℕ → Type 0
-IsInput None input = Unit {0}
-IsInput (Some left) input = input ≡ left
+-- ---- ends
 
--- the input is no first script
-abbrev pub IsRefused : List ℕ → Type 0
-IsRefused input = (commands : List Command) → IsFirstScript input commands → ⊥
+-- the script's replies are these bytes, and its run ends so
+abbrev pub IsAnswered : List ℕ → List ℕ → Status → Type 0
+IsAnswered script out status = (commands : List (ℕ × Command)) × (end : End)
+    × IsScript 1 script commands end × Replies first_session commands end out status
 
--- the input is a first script, and out is all its replies
-abbrev pub IsAnswered : List ℕ → List ℕ → Type 0
-IsAnswered input out = (commands : List Command) × IsFirstScript input commands × AreReplies commands out
-
--- the input is a first script that begins with these commands
-abbrev pub BeginsWith : List ℕ → List Command → Type 0
-BeginsWith input front = (commands : List Command) × (back : List Command) × IsFirstScript input commands × (commands ≡ front ++ back)
-
--- the input is a first script, and out is a prefix of the replies to its first commands
-abbrev pub IsCutShort : List ℕ → List ℕ → Type 0
-IsCutShort input out = (front : List Command) × (rest : List ℕ) × BeginsWith input front × AreReplies front (out ++ rest)
-
--- out is nothing, or the replies to the first commands of the input, which is a first script
+-- the bytes are the replies to exactly the commands that stand whole, with their last LF, in those that were taken
 abbrev pub IsBrokenOff : List ℕ → List ℕ → Type 0
-IsBrokenOff input out = (out ≡ []) ⊎ ((front : List Command) × BeginsWith input front × AreReplies front out)
+IsBrokenOff taken out = (commands : List (ℕ × Command)) × (last : Session)
+    × StandWhole 1 taken commands × AreReplied first_session commands out last
 
--- what was written fits the status
-abbrev pub Fits : Status → List ℕ → List ℕ → Type 0
-Fits Done input out = IsAnswered input out
-Fits Usage input out = out ≡ []
-Fits ReadFault input out = out ≡ []
-Fits WriteFault input out = IsCutShort input out
-Fits NotBuilt input out = IsRefused input × (out ≡ [])
-Fits NoMemory input out = IsBrokenOff input out
+-- the bytes are the replies to some first commands
+abbrev pub IsStopped : List ℕ → Option (List ℕ) → List ℕ → Type 0
+IsStopped taken left out = (commands : List (ℕ × Command)) × (last : Session)
+    × StandTaken taken left commands × AreReplied first_session commands out last
+
+-- the bytes are the replies to some first commands, and then a prefix of the reply to the next
+abbrev pub IsCutShort : List ℕ → Option (List ℕ) → List ℕ → Type 0
+IsCutShort taken left out = (commands : List (ℕ × Command)) × (next : ℕ × Command) × (before last : Session)
+    × (replies part rest : List ℕ) × StandTaken taken left (commands ++ next ∷ []) × AreReplied first_session commands replies before
+    × IsReplied before next.1 (part ++ rest) last × (out ≡ replies ++ part)
+
+-- 2^31 - 1 bytes were taken and then one more; the commands that stand whole in the former were replied to
+abbrev pub IsTooLong : List ℕ → List ℕ → Type 0
+IsTooLong taken out = (script : List ℕ) × (byte : ℕ) × (taken ≡ script ++ byte ∷ []) × (length script ≡ 2 ^ 31 - 1) × IsBrokenOff script out
+
+-- what a source has left, where it tells that
+abbrev pub told : Option (List ℕ) → List ℕ
+told None = []
+told (Some left) = left
+
+-- what was taken of a source in which this is left, and what was written, fit the status
+abbrev pub Fits : Status → List ℕ → Option (List ℕ) → List ℕ → Type 0
+Fits Done taken left out = IsAnswered (taken ++ told left) out Done
+Fits Usage taken left out = (taken ≡ []) × (out ≡ [])
+Fits (BadScript line) taken left out = IsAnswered (taken ++ told left) out (BadScript line)
+Fits ReadFault taken left out = IsBrokenOff taken out
+Fits WriteFault taken left out = IsCutShort taken left out
+Fits TooLong taken left out = IsTooLong taken out
+Fits NotBuilt taken left out = IsAnswered (taken ++ told left) out NotBuilt
+Fits NoMemory taken left out = IsStopped taken left out
+
+-- at most 2^31 - 1 bytes are taken; at `TooLong` one more was
+abbrev pub most_taken : Status → ℕ
+most_taken Done = 2 ^ 31 - 1
+most_taken Usage = 0
+most_taken (BadScript line) = 2 ^ 31 - 1
+most_taken ReadFault = 2 ^ 31 - 1
+most_taken WriteFault = 2 ^ 31 - 1
+most_taken TooLong = 2 ^ 31
+most_taken NotBuilt = 2 ^ 31 - 1
+most_taken NoMemory = 2 ^ 31 - 1
+
+-- what was taken between the two, and what was written between the two, fit the status
+abbrev pub Answers : Status → Option (List ℕ) → Option (List ℕ) → Option (List ℕ) → Option (List ℕ) → Type 0
+Answers status source left before now = (taken out : List ℕ)
+    × Consumes source left taken × Appends before now out × (length taken ≤ most_taken status) × Fits status taken left out
 
 -- what was written between the two is as P says
 abbrev pub Wrote : Option (List ℕ) → Option (List ℕ) → (List ℕ → Type 0) → Type 0
 Wrote before now P = (out : List ℕ) × Appends before now out × P out
-
--- for this input, and what the sink held before and holds now
-abbrev pub AnswersTo : Status → List ℕ → Option (List ℕ) → Option (List ℕ) → Type 0
-AnswersTo status input before now = Wrote before now (Fits status input)
-
--- for some input, which is what the source had left at entry where it tells that
-abbrev pub Answers : Status → Option (List ℕ) → Option (List ℕ) → Option (List ℕ) → Type 0
-Answers status left before now = (input : List ℕ) × IsInput left input × AnswersTo status input before now
-
--- the statuses after which the input was read
-abbrev pub HasRead : Status → Type 0
-HasRead Done = Unit {0}
-HasRead Usage = ⊥
-HasRead ReadFault = ⊥
-HasRead WriteFault = Unit {0}
-HasRead NotBuilt = Unit {0}
-HasRead NoMemory = ⊥
-
--- where the source tells what it has left, that was taken, or 65,537 bytes of it
-abbrev pub TakesInput : Option (List ℕ) → Option (List ℕ) → Type 0
-TakesInput before now = IfSome before (λ left. now ≡ Some (drop 65537 left))

@@ -1,28 +1,23 @@
 // The top call: what the program does, from its words to its status.
-ghost use Rattle.std.specs.Prelude.{◌≡◌, ◌<◌, ◌↔◌, ◌⊎◌, ℕ, List, length, IfOk, IfSome, IfNone, Some};
-ghost use Rattle.std.specs.Io.KnownBytes.{Appends};
-ghost use Rattle.hack_base.specs.Script as script;
-ghost use Rattle.hack_io.specs.Causes.{Rose};
+ghost use Rattle.std.specs.Prelude.{◌≡◌, ◌≢◌, ◌<◌, ◌↔◌, ℕ, List, length, IfErr, IfSome, OnOk};
 ghost use Rattle.hack_base.specs.Files.{Files};
+ghost use Rattle.hack_io.specs.Causes.{Rose};
 ghost use Rattle.hack_types.specs.declared.diag.FileDiag.{FileDiag};
-ghost use Rattle.hack_serve.specs.Findings.{IsFirstReport};
-ghost use Rattle.hack_serve.specs.FirstScript.{IsFirstScript, AreReplies};
-ghost use Rattle.hack_serve.specs.Outcome.{Answers, AnswersTo, HasRead, IsRefused, IsAnswered, IsCutShort, IsBrokenOff, TakesInput, Wrote};
-ghost use Rattle.hack_serve.specs.Steps.{AreSteps};
+ghost use Rattle.check_state.specs.Findings.{IsFirstReport};
+ghost use Rattle.hack_serve.specs.Outcome.{IsAnswered, IsBrokenOff, IsStopped, IsCutShort, IsTooLong, Answers, Wrote};
+ghost use Rattle.hack_serve.specs.Told.{OfFront};
 
 use crate::Status;
-use crate::input::{MAX_SCRIPT, take_input};
-use crate::script::commands;
-use crate::session::{never_twice, reply_all};
-use crate::steps::{Step, steps};
-use hack_io::{NoMemory, Sink, Source};
+use crate::command::next_command;
+use crate::session::Session;
+use hack_io::{Sink, Source};
+use script_text::{ScriptReader, reply_text};
 use std::alloc::Global;
 
-/// Runs the server on the words of its command line, without the program's name: takes the script from the source
-/// and writes the replies to the sink, one push a reply (docs/script.md).
+/// Runs the server on the words of its command line, without the program's name: reads the script from the source
+/// command by command, and writes the reply to each, one push a reply, before it reads the next (docs/script.md).
 ///
-/// Words are refused before anything is read. The source is taken to its end, or until there are 65,537 bytes,
-/// before anything is written. What each status says is docs/script.md, Statuses.
+/// Words are refused before anything is read. What each status says is docs/script.md, Statuses.
 pub fn hack_main<S: Source, K: Sink>(
     alloc: Global,
     words: &[String],
@@ -33,78 +28,65 @@ pub fn hack_main<S: Source, K: Sink>(
     ensures usage { (result ≡ Status.Usage) ↔ (0 < length words.now) }
     ensures untouched { result ≡ Status.Usage → (source.new ≡ source.old) × (sink.new ≡ sink.old) }
 
-    // Only where the source's faults rose; nothing is written then.
-    ensures read_fault { result ≡ Status.ReadFault → Rose (S.faults source.old) (S.faults source.new) × (sink.new ≡ sink.old) }
+    // Faults have their causes.
+    ensures reads_failed { result ≡ Status.ReadFault → Rose (S.faults source.old) (S.faults source.new) }
+    ensures writes_failed { result ≡ Status.WriteFault → Rose (K.faults sink.old) (K.faults sink.new) }
 
-    // Only where the input is no first script; nothing is written then.
-    ensures not_built { result ≡ Status.NotBuilt → IfSome (S.left source.old) IsRefused × (sink.new ≡ sink.old) }
+    // What was taken and what was written fit the status.
+    ensures answers { Answers result (S.left source.old) (S.left source.new) (K.written sink.old) (K.written sink.new) }
 
-    // Only where the sink's faults rose; what was written is a prefix of the replies.
-    ensures write_fault { result ≡ Status.WriteFault → Rose (K.faults sink.old) (K.faults sink.new)
-        × IfSome (S.left source.old) (λ input. Wrote (K.written sink.old) (K.written sink.new) (IsCutShort input)) }
+    // Of a source that tells its bytes: the whole script has this answer.
+    ensures done { result ≡ Status.Done
+        → IfSome (S.left source.old) (λ script. Wrote (K.written sink.old) (K.written sink.new) (λ out. IsAnswered script out Status.Done)) }
+    ensures bad_script { (line : ℕ) → result ≡ Status.BadScript line
+        → IfSome (S.left source.old) (λ script. Wrote (K.written sink.old) (K.written sink.new) (λ out. IsAnswered script out (Status.BadScript line))) }
+    ensures not_built { result ≡ Status.NotBuilt
+        → IfSome (S.left source.old) (λ script. Wrote (K.written sink.old) (K.written sink.new) (λ out. IsAnswered script out Status.NotBuilt)) }
 
-    // What was written breaks off between two replies.
-    ensures no_memory { result ≡ Status.NoMemory → IfSome (S.left source.old) (λ input. Wrote (K.written sink.old) (K.written sink.new) (IsBrokenOff input)) }
-
-    // The input is a first script, and exactly its replies were written.
-    ensures done { result ≡ Status.Done → IfSome (S.left source.old) (λ input. Wrote (K.written sink.old) (K.written sink.new) (IsAnswered input)) }
-
-    // Where the input was read, no read failed, and all of it was taken, or 65,537 bytes.
-    ensures reads { HasRead result → (S.faults source.new ≡ S.faults source.old) × TakesInput (S.left source.old) (S.left source.new) }
-
-    // All of this over one input.
-    ensures answers { Answers result (S.left source.old) (K.written sink.old) (K.written sink.new) }
+    // Of such a source: the replies break off, as what was taken of the script says.
+    ensures read_fault { result ≡ Status.ReadFault → IfSome (S.left source.old) (λ script. Wrote (K.written sink.old) (K.written sink.new)
+        (λ out. OfFront script (λ taken left. IsBrokenOff taken out))) }
+    ensures too_long { result ≡ Status.TooLong → IfSome (S.left source.old) (λ script. Wrote (K.written sink.old) (K.written sink.new)
+        (λ out. OfFront script (λ taken left. IsTooLong taken out))) }
+    ensures write_fault { result ≡ Status.WriteFault → IfSome (S.left source.old) (λ script. Wrote (K.written sink.old) (K.written sink.new)
+        (λ out. OfFront script (λ taken left. IsCutShort taken left out))) }
+    ensures no_memory { result ≡ Status.NoMemory → IfSome (S.left source.old) (λ script. Wrote (K.written sink.old) (K.written sink.new)
+        (λ out. OfFront script (λ taken left. IsStopped taken left out))) }
 {
     if !words.is_empty() {
         return Status::Usage;
     }
-    match take_input(alloc, source) {
-        Ok(input) => reply_to(alloc, &input, sink),
+    match reply_to_all(alloc, source, sink) {
+        Ok(()) => Status::Done,
         Err(status) => status,
     }
 }
 
-/// Replies to the script of these bytes: what `hack_main` does once it has taken its input.
-pub fn reply_to<K: Sink>(alloc: Global, input: &[u8], sink: &mut K) -> Status
-    ensures reads { HasRead result ⊎ (result ≡ Status.NoMemory) }
-    ensures not_built { result ≡ Status.NotBuilt → sink.new ≡ sink.old }
-    ensures write_fault { result ≡ Status.WriteFault → Rose (K.faults sink.old) (K.faults sink.new) }
-    ensures answers { AnswersTo result input.now (K.written sink.old) (K.written sink.new) }
-{
-    match first_steps(alloc, input) {
-        Ok(Some(steps)) => match reply_all(alloc, &steps, sink) {
-            Ok(()) => Status::Done,
-            Err(status) => status,
-        },
-        Ok(None) => Status::NotBuilt,
-        Err(NoMemory) => Status::NoMemory,
-    }
-}
-
-/// Files have one report, and commands have one text of replies: what `hack_main` says of its output leaves no choice.
+/// A script has one answer, and files have one report: what `hack_main` says of its output leaves no choice.
 pub fn one_answer()
+    ensures answer { (script out other : List ℕ) (status ends : Status) → IsAnswered script out status → IsAnswered script other ends
+        → (out ≡ other) × (status ≡ ends) }
     ensures report { (files : Files) (one other : List FileDiag) → IsFirstReport files one → IsFirstReport files other → one ≡ other }
-    ensures replies { (commands : List script.Command) (one other : List ℕ) → AreReplies commands one → AreReplies commands other → one ≡ other }
 {}
 
-/// The steps of a first script, or `None` where the bytes are none (docs/script.md, First scripts).
-fn first_steps(alloc: Global, bytes: &[u8]) -> Result<Option<Vec<Step<'_>>>, NoMemory>
-    ensures found { IfOk result (λ found. IfSome found (λ steps. (commands : List script.Command)
-        × IsFirstScript bytes.now commands × AreSteps commands steps.items)) }
-    ensures none { IfOk result (λ found. IfNone found (IsRefused bytes.now)) }
+/// Reads command after command, and writes the reply to each.
+fn reply_to_all<S: Source, K: Sink>(
+    alloc: Global,
+    source: &mut S,
+    sink: &mut K,
+) -> Result<(), Status>
+    ensures done { OnOk result (Answers Status.Done (S.left source.old) (S.left source.new) (K.written sink.old) (K.written sink.new)) }
+    ensures stopped { IfErr result (λ status. Answers status (S.left source.old) (S.left source.new) (K.written sink.old) (K.written sink.new)) }
+    ensures words { IfErr result (λ status. status ≢ Status.Usage) }
+    ensures reads_failed { IfErr result (λ status. status ≡ Status.ReadFault → Rose (S.faults source.old) (S.faults source.new)) }
+    ensures writes_failed { IfErr result (λ status. status ≡ Status.WriteFault → Rose (K.faults sink.old) (K.faults sink.new)) }
 {
-    if bytes.len() > MAX_SCRIPT {
-        return Ok(None);
+    let mut reader = ScriptReader::new(alloc)?;
+    let mut session = Session::new(alloc)?;
+    while let Some(command) = next_command(alloc, &mut reader, source)? {
+        let reply = session.reply(alloc, command)?;
+        let text = reply_text(alloc, &reply, false)?;
+        sink.push(&text)?;
     }
-    let Some(commands) = commands(alloc, bytes)? else {
-        return Ok(None);
-    };
-    let Some(steps) = steps(alloc, &commands)? else {
-        return Ok(None);
-    };
-    if never_twice(alloc, &steps)? {
-        Ok(Some(steps))
-    } else {
-        Ok(None)
-    }
+    Ok(())
 }

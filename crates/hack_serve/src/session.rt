@@ -1,100 +1,136 @@
-// A run of the server: the files, and how many edits and checks there were.
-ghost use Rattle.std.specs.Prelude.{◌≡◌, ◌⊎◌, ◌+◌, ◌<◌, ◌≤◌, ◌^◌, List, IfOk, IfErr, OnOk, MatchBool};
-ghost use Rattle.hack_base.specs.Files as model;
-ghost use Rattle.hack_base.specs.Script as script;
-ghost use Rattle.hack_io.specs.Causes.{Rose};
-ghost use Rattle.hack_serve.specs.Findings.{DeclaresOnce};
-ghost use Rattle.hack_serve.specs.FirstScript.{NeverTwice, first_files};
-ghost use Rattle.hack_serve.specs.Steps.{AreSteps, IsStep, Stands};
-ghost use Rattle.hack_serve.specs.Session.{IsReplied, IsAfter, IsStopped, files_after, Writes};
+// The current files, and how many edits and checks there were.
+ghost use Rattle.std.specs.Prelude.{◌≡◌, ◌≢◌, ◌≤◌, ◌<◌, ◌+◌, ◌*◌, ◌^◌, ◌-◌, ℕ, IfOk, IfErr, OnOk, length};
+ghost use Rattle.script_text.specs.Script as script;
+ghost use Rattle.check_state.specs.Stands.{name_count};
+ghost use Rattle.hack_serve.specs.Commands.{command_of, IsLineOf};
+ghost use Rattle.hack_serve.specs.Session as model;
+ghost use Rattle.hack_serve.specs.Session.{first_session, EndsAt};
+ghost use Rattle.hack_serve.specs.Running.{StandsFor, HasReplied, IsShort, twice_names};
+ghost use Rattle.hack_serve.specs.declared.status.Status.TheVariants.{NoMemory as NoMemoryStatus};
 
 use crate::Status;
-use crate::files::Files;
-use crate::reply::{edited, reported};
-use crate::steps::Step;
-use hack_io::{NoMemory, Sink};
+use crate::command::Command;
+use check_state::{Edit, EditStop, State};
+use hack_types::NoMemory;
+use script_text::Reply;
 use std::alloc::Global;
 
 /// The current files, and the numbers of the last edit and the last check.
 #[derive(Drop)]
-pub(crate) struct Session<'s, 'a> {
-    files: Files<'s, 'a>,
+pub(crate) struct Session {
+    state: State,
     edits: u64,
     checks: u64,
 }
 
-impl<'s, 'a> Session<'s, 'a> {
+impl Session {
     /// No file, no edit and no check.
-    fn new(alloc: Global) -> Self
-        ensures files { Stands result.files.units result.files.results first_files }
-        ensures edits { result.edits ≡ 0 }
-        ensures checks { result.checks ≡ 0 }
+    pub(crate) fn new(alloc: Global) -> Result<Session, NoMemory>
+        ensures stands { IfOk result (λ session. StandsFor session first_session) }
+        ensures names { IfOk result (λ session. name_count session.state ≤ 250) }
     {
-        Session {
-            files: Files::new(alloc),
+        let state = State::new(alloc)?;
+        Ok(Session {
+            state,
             edits: 0,
             checks: 0,
-        }
+        })
     }
 
-    /// Takes a step, and gives its reply.
-    fn reply(&mut self, alloc: Global, step: &'s Step<'a>) -> Result<Vec<u8>, NoMemory>
+    /// Carries a command out, and gives its reply (docs/script.md, Replies). After an error the session isn't used again.
+    pub(crate) fn reply(&mut self, alloc: Global, command: Command) -> Result<Reply, Status>
+        requires short { IsShort (command_of command) }
+        requires room { 2 * name_count self.old.state + twice_names (command_of command) ≤ 2 ^ 31 - 2 }
         requires edits { self.old.edits + 1 < 2 ^ 64 }
         requires checks { self.old.checks + 1 < 2 ^ 64 }
-        ensures replied { IfOk result (λ text. (files : model.Files) (command : script.Command)
-            → Stands self.old.files.units self.old.files.results files → IsStep command step.now → DeclaresOnce (files_after files command)
-            → IsReplied files self.old.edits self.old.checks command text.items
-            × IsAfter self.old.edits self.old.checks command self.new.edits self.new.checks
-            × Stands self.new.files.units self.new.files.results (files_after files command)) }
+        ensures replied { IfOk result (λ reply. (s : model.Session) → StandsFor self.old s → HasReplied self.new (command_of command) reply s) }
+        ensures ended { IfErr result (λ status. status ≢ NoMemoryStatus → (s : model.Session) (line : ℕ) → StandsFor self.old s
+            → IsLineOf command line → EndsAt s line (command_of command) status) }
+        ensures names { OnOk result (2 * name_count self.new.state ≤ 2 * name_count self.old.state + twice_names (command_of command)) }
         ensures edits { OnOk result (self.new.edits ≤ self.old.edits + 1) }
         ensures checks { OnOk result (self.new.checks ≤ self.old.checks + 1) }
     {
-        match step {
-            Step::Put(name, units) => {
+        match command {
+            Command::File { line, name, body } => self.put(alloc, line, name, body),
+            Command::Drop { name } => self.remove(alloc, name),
+            Command::Check => self.check(alloc),
+            Command::Begin => Err(Status::NotBuilt),
+            Command::Wait => Err(Status::NotBuilt),
+        }
+    }
+
+    /// Puts a file, with a command in this line.
+    fn put(
+        &mut self,
+        alloc: Global,
+        line: u64,
+        name: Vec<u8>,
+        body: Vec<u8>,
+    ) -> Result<Reply, Status>
+        requires short { IsShort (script.File name.items body.items) }
+        requires room { 2 * name_count self.old.state + length body.items + 3 ≤ 2 ^ 31 - 2 }
+        requires edits { self.old.edits + 1 < 2 ^ 64 }
+        ensures replied { IfOk result (λ reply. (s : model.Session) → StandsFor self.old s
+            → HasReplied self.new (script.File name.items body.items) reply s) }
+        ensures ended { IfErr result (λ status. status ≢ NoMemoryStatus → (s : model.Session) → StandsFor self.old s
+            → EndsAt s line (script.File name.items body.items) status) }
+        ensures names { OnOk result (2 * name_count self.new.state ≤ 2 * name_count self.old.state + length body.items + 3) }
+        ensures edits { OnOk result (self.new.edits ≤ self.old.edits + 1) }
+        ensures checks { self.new.checks ≡ self.old.checks }
+    {
+        match self.state.edit(alloc, Edit::Put { name, bytes: body }) {
+            Ok(()) => {
                 self.edits += 1;
-                self.files.put(*name, units)?;
-                edited(alloc, self.edits)
+                Ok(Reply::Edit(self.edits))
             }
-            Step::Report => {
-                self.checks += 1;
-                let report = self.files.report(alloc)?;
-                reported(alloc, self.checks, &report)
-            }
+            Err(EditStop::TooManyFiles { .. }) => Err(Status::BadScript { line }),
+            Err(EditStop::TooMuchText { .. }) => Err(Status::BadScript { line }),
+            // A file that is put need not be there.
+            Err(EditStop::NoFile) => Err(Status::NoMemory),
+            Err(EditStop::NoMemory) => Err(Status::NoMemory),
         }
     }
-}
 
-/// Whether the files declare no name twice after any of the steps.
-pub(crate) fn never_twice(alloc: Global, steps: &[Step<'_>]) -> Result<bool, NoMemory>
-    ensures { IfOk result (λ once. (commands : List script.Command) → AreSteps commands steps.now
-        → MatchBool once (NeverTwice first_files commands) (NeverTwice first_files commands → ⊥)) }
-{
-    let mut files = Files::new(alloc);
-    for step in steps {
-        if !files.keep(step)? {
-            return Ok(false);
+    /// Takes a file away.
+    fn remove(&mut self, alloc: Global, name: Vec<u8>) -> Result<Reply, Status>
+        requires short { IsShort (script.Drop name.items) }
+        requires room { 2 * name_count self.old.state ≤ 2 ^ 31 - 2 }
+        requires edits { self.old.edits + 1 < 2 ^ 64 }
+        ensures replied { IfOk result (λ reply. (s : model.Session) → StandsFor self.old s
+            → HasReplied self.new (script.Drop name.items) reply s) }
+        ensures ended { IfErr result (λ status. status ≡ NoMemoryStatus) }
+        ensures names { OnOk result (2 * name_count self.new.state ≤ 2 * name_count self.old.state) }
+        ensures edits { OnOk result (self.new.edits ≤ self.old.edits + 1) }
+        ensures checks { self.new.checks ≡ self.old.checks }
+    {
+        match self.state.edit(alloc, Edit::Drop { name }) {
+            Ok(()) => {
+                self.edits += 1;
+                Ok(Reply::Edit(self.edits))
+            }
+            Err(EditStop::NoFile) => Ok(Reply::NoFile),
+            // A file that is taken away is never one too many.
+            Err(EditStop::TooManyFiles { .. }) => Err(Status::NoMemory),
+            Err(EditStop::TooMuchText { .. }) => Err(Status::NoMemory),
+            Err(EditStop::NoMemory) => Err(Status::NoMemory),
         }
     }
-    Ok(true)
-}
 
-/// Replies to every step in order, one push a reply.
-pub(crate) fn reply_all<K: Sink>(
-    alloc: Global,
-    steps: &[Step<'_>],
-    sink: &mut K,
-) -> Result<(), Status>
-    ensures done { OnOk result ((commands : List script.Command) → AreSteps commands steps.now → NeverTwice first_files commands
-        → Writes (K.written sink.old) (K.written sink.new) commands) }
-    ensures stopped { IfErr result (λ status. (commands : List script.Command) → AreSteps commands steps.now → NeverTwice first_files commands
-        → IsStopped status (K.written sink.old) (K.written sink.new) commands) }
-    ensures cause { IfErr result (λ status. ((status ≡ Status.WriteFault) × Rose (K.faults sink.old) (K.faults sink.new)) ⊎ (status ≡ Status.NoMemory)) }
-    ensures faults { OnOk result (K.faults sink.new ≡ K.faults sink.old) }
-{
-    let mut session = Session::new(alloc);
-    for step in steps {
-        let text = session.reply(alloc, step)?;
-        sink.push(&text)?;
+    /// Reports on the current files.
+    fn check(&mut self, alloc: Global) -> Result<Reply, Status>
+        requires { self.old.checks + 1 < 2 ^ 64 }
+        ensures replied { IfOk result (λ reply. (s : model.Session) → StandsFor self.old s → HasReplied self.new script.Check reply s) }
+        ensures ended { IfErr result (λ status. status ≢ NoMemoryStatus → (s : model.Session) (line : ℕ) → StandsFor self.old s
+            → EndsAt s line script.Check status) }
+        ensures state { self.new.state ≡ self.old.state }
+        ensures edits { self.new.edits ≡ self.old.edits }
+        ensures checks { OnOk result (self.new.checks ≤ self.old.checks + 1) }
+    {
+        if !self.state.are_first() {
+            return Err(Status::NotBuilt);
+        }
+        let report = self.state.report(alloc)?;
+        self.checks += 1;
+        Ok(Reply::Report(self.checks, report))
     }
-    Ok(())
 }

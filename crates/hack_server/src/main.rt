@@ -14,8 +14,8 @@ fn main(rt: HostRuntime) -> ExitCode {
         Ok(args) => run(rt.alloc(), args, rt.stdin(), rt.stdout()),
         Err(error) => refusal(&error),
     };
-    if let Some(text) = status.text() {
-        let _ = eprintln!(rt; "{text}");
+    if status != Status::Done {
+        let _ = eprintln!(rt; "{status}");
     }
     ExitCode::from(status.number())
 }

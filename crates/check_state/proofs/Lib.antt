@@ -1,0 +1,11 @@
+pub mod BuiltinTreeKinds
+pub mod BuiltinTreeTokens
+pub mod BuiltinTreeParse
+pub mod BuiltinTree
+pub mod Declared
+pub mod Declarers
+pub mod Firsts
+pub mod Listed
+pub mod Reported
+pub mod Standing
+pub mod Sums

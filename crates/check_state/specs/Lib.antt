@@ -1,0 +1,5 @@
+pub mod Faults
+pub mod Findings
+pub mod Edits
+pub mod Stands
+pub mod Inside

@@ -1,0 +1,15 @@
+//! The current files: what they declare, and what a check of them finds.
+#![tactic(auto)]
+
+mod edit;
+mod file;
+mod laws;
+mod report;
+mod state;
+#[cfg(test)]
+mod tests;
+mod texts;
+
+pub use edit::{Edit, EditStop};
+pub use laws::builtin_text_has_a_tree;
+pub use state::State;
