@@ -3,7 +3,5 @@
 
 mod cases;
 mod macros;
-#[cfg(test)]
-mod tests;
 
 pub use cases::Cases;

@@ -4,8 +4,6 @@
 
 mod bytes;
 mod name;
-#[cfg(test)]
-mod tests;
 
 pub use bytes::Bytes;
 pub use name::Name;

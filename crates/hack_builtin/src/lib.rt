@@ -4,9 +4,6 @@
 ghost use Rattle.std.specs.Prelude.{◌≡◌};
 ghost use Rattle.hack_builtin.specs.Builtin.{builtin_text};
 
-#[cfg(test)]
-mod tests;
-
 /// The builtin text, as bytes: five interfaces and a class, 478 bytes, and an LF at the end of each line
 /// (docs/language.md, The builtin text).
 #[tactic(auto, unfolding(crate::specs::Builtin::builtin_text))]

@@ -4,4 +4,3 @@ pub mod NamesInTypes
 pub mod NodeLemmas
 pub mod RisingLaws
 pub mod TextLemmas
-pub mod TypeLaws

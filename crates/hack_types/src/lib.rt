@@ -11,16 +11,10 @@ mod place;
 mod rising;
 mod shallow;
 mod signature;
-#[cfg(test)]
-mod tests;
 mod type_copy;
 mod type_nodes;
 mod type_option;
 mod type_same;
-#[cfg(test)]
-mod type_same_tests;
-#[cfg(test)]
-mod type_tests;
 mod type_texts;
 
 pub use diag::{Diag, FileDiag};

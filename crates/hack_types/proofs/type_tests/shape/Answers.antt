@@ -1,8 +1,0 @@
-use Rattle.std.proofs.Common.{sym, subst}
-use Rattle.hack_types.specs.Rising.{FieldsRise}
-use Rattle.hack_types.specs.declared.hack_type.HackType.{HackType}
-use Rattle.hack_types.proofs.RisingLaws.{no_fields_rise}
-use Rattle.hack_types.proofs.type_tests.shape.Goals as goal
-
-pub from_vec-fields-requires : goal.from_vec-fields-requires
-from_vec-fields-requires c = subst FieldsRise (sym c.new.ensures.items) (no_fields_rise HackType)
