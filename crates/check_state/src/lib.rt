@@ -6,8 +6,6 @@ mod file;
 mod laws;
 mod report;
 mod state;
-#[cfg(test)]
-mod tests;
 mod texts;
 
 pub use edit::{Edit, EditStop};

@@ -6,6 +6,3 @@ mod text;
 
 pub use order::in_report_order;
 pub use text::{diag_line, report_text};
-
-#[cfg(test)]
-mod tests;

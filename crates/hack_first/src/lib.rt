@@ -3,8 +3,6 @@
 
 mod first;
 mod laws;
-#[cfg(test)]
-mod tests;
 mod unit;
 
 pub use first::{are_first, first_unit};

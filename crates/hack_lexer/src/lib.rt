@@ -11,8 +11,6 @@ mod run;
 mod scan;
 mod step;
 mod tables;
-#[cfg(test)]
-mod tests;
 mod text;
 mod token;
 

@@ -5,8 +5,6 @@ mod index;
 mod keys;
 mod laws;
 mod table;
-#[cfg(test)]
-mod tests;
 mod unit;
 
 pub use laws::{in_order, winner_and_losers};

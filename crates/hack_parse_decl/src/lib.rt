@@ -6,8 +6,6 @@ mod file;
 mod lexemes;
 mod member;
 mod signature;
-#[cfg(test)]
-mod tests;
 
 pub use file::{absolute, one_tree, parse_file, trees_stay};
 pub use hack_parse_expr::ParseStop;

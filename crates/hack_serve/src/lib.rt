@@ -8,6 +8,3 @@ mod status;
 
 pub use run::{hack_main, one_answer};
 pub use status::Status;
-
-#[cfg(test)]
-mod tests;

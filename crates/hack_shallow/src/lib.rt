@@ -7,8 +7,6 @@ mod resolve;
 mod scope;
 mod shallow;
 mod signature;
-#[cfg(test)]
-mod tests;
 
 pub use laws::{one_member, one_shallow};
 pub use shallow::shallow_of;

@@ -8,8 +8,6 @@ mod line;
 mod reader;
 mod reply;
 mod stand;
-#[cfg(test)]
-mod tests;
 
 pub use head::{Head, ReadStop};
 pub use laws::{

@@ -1,8 +1,0 @@
-use Rattle.std.proofs.Common.{◌≡◌, length, ap, ◌∙◌, arith}
-use Rattle.hack_types.proofs.NameLemmas.{length-fixed_names}
-use Rattle.hack_parse_decl.proofs.tests.parsed.Goals as goal
-
-pub parse_file-requires-clause-room : goal.parse_file-requires-clause-room
-parse_file-requires-clause-room c =
-    let few : length c.new-names.result ≡ 7 = ap length c.new-names.ensures ∙ length-fixed_names in
-    omega (arith, c.as_bytes.ensures.value, c.as_bytes.ensures.len, c.if-file-gt1048576.false)

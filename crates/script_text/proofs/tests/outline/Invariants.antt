@@ -1,6 +1,0 @@
-use Rattle.std.proofs.Common.{◌≡◌}
-use Rattle.script_text.specs.declared.stand.Stand.TheVariants.{BeforeHead}
-use Rattle.script_text.proofs.tests.outline.Given as goal
-
-abbrev pub invariant-loop : goal.invariant-loop
-invariant-loop g l = l.reader.stand ≡ BeforeHead
