@@ -65,14 +65,17 @@ impl Sink for MemorySink {
             ⊎ (reserved_len self.old < length (bytes_written self.old) + length piece.now)) }
         ensures ok { OnOk result (bytes_written self.new ≡ bytes_written self.old ++ piece.now) }
         ensures err { OnErr result (bytes_written self.new ≡ bytes_written self.old
-            ++ take (min (kept_len self.old) (reserved_len self.old - length (bytes_written self.old))) piece.now) }
+            ++ take (min (kept_len self.old) (reserved_len self.old
+            - length (bytes_written self.old))) piece.now) }
         ensures next { next_push self.new ≡ next_call (next_push self.old) }
         ensures failing { failing_pushes self.new ≡ failing_pushes self.old }
         ensures room { reserved_len self.new ≡ reserved_len self.old }
         ensures kept { kept_len self.new ≡ kept_len self.old }
         ensures faults_ok { OnOk result (push_faults self.new ≡ push_faults self.old) }
-        ensures faults_err { OnErr result (push_faults self.new ≡ next_call (push_faults self.old)) }
-        ensures bytes { Pushes (Some (bytes_written self.old)) (Some (bytes_written self.new)) result piece.now }
+        ensures faults_err { OnErr result
+            (push_faults self.new ≡ next_call (push_faults self.old)) }
+        ensures bytes { Pushes (Some (bytes_written self.old))
+            (Some (bytes_written self.new)) result piece.now }
         ensures cause { HasCause (push_faults self.old) (push_faults self.new) result }
     {
         self.calls = self.calls.saturating_add(1);

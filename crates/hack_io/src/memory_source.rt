@@ -54,7 +54,9 @@ impl Source for MemorySource {
 
     fn pull(&mut self, into: &mut [u8]) -> Result<usize, ReadFault>
         ensures fails { IsErr result ↔ Contains (failing_pulls self.old) (next_pull self.old) }
-        ensures count { IfOk result (λ n. n ≡ min (piece_len self.old) (min (length into.old) (length (bytes_left self.old)))) }
+        ensures count { IfOk result
+            (λ n. n ≡ min (piece_len self.old)
+            (min (length into.old) (length (bytes_left self.old)))) }
         ensures moved { IfOk result (λ n. take n into.new ≡ take n (bytes_left self.old)) }
         ensures rest { IfOk result (λ n. drop n into.new ≡ drop n into.old) }
         ensures left { IfOk result (λ n. bytes_left self.new ≡ drop n (bytes_left self.old)) }
@@ -64,9 +66,11 @@ impl Source for MemorySource {
         ensures failing { failing_pulls self.new ≡ failing_pulls self.old }
         ensures piece { piece_len self.new ≡ piece_len self.old }
         ensures faults_ok { OnOk result (pull_faults self.new ≡ pull_faults self.old) }
-        ensures faults_err { OnErr result (pull_faults self.new ≡ next_call (pull_faults self.old)) }
+        ensures faults_err { OnErr result
+            (pull_faults self.new ≡ next_call (pull_faults self.old)) }
         ensures bound { ReadsAtMost result into.new }
-        ensures bytes { ReadConsumes (Some (bytes_left self.old)) (Some (bytes_left self.new)) result into.new }
+        ensures bytes { ReadConsumes (Some (bytes_left self.old))
+            (Some (bytes_left self.new)) result into.new }
         ensures cause { HasCause (pull_faults self.old) (pull_faults self.new) result }
     {
         self.calls = self.calls.saturating_add(1);

@@ -1,7 +1,6 @@
 -- A head behind a body that is passed over.
-use Rattle.std.proofs.Common.{◌≡◌, ◌⊎◌, inl, inr, ℕ, ◌+◌, Bool, true, false, true≢false, List, [], ◌++◌, Some, None, refl, sym, ap, ◌∙◌, subst, append_assoc, append-nil}
+use Rattle.std.proofs.Common.{◌≡◌, inr, ℕ, ◌+◌, ◌≤◌, Bool, true, false, true≢false, List, [], ◌++◌, Some, None, refl, sym, ap, ◌∙◌, subst, append_assoc, append-nil}
 use Rattle.std.specs.Prelude.{Option, Result, Ok, Err, IfOk, IfErr}
-use Rattle.hack_io.specs.Causes.{Rose}
 use Rattle.script_text.specs.Heads.{Head}
 use Rattle.script_text.specs.Script.{Broken, Open, next_head, Body, next_body, newlines}
 use Rattle.script_text.specs.Reader.{Reader, Takes, Stops, ReadsHead, ReadsBody, ReadsBehind, past_body, IsBrokenBehind, WaitsBehind, head_of}
@@ -57,21 +56,21 @@ waits_behind a b len body going x y r q =
 
 -- a body and then a stop
 pub stops_behind : (faults now last : ℕ) (source mid rest : Option (List ℕ)) (a b c : Reader) (len : ℕ) (body : List ℕ) (s : ReadStop) → Takes source mid a b (λ x. ReadsBody a x b len body)
-    → now ≡ faults → Stops now last mid rest b c (λ whole bytes line. next_head whole b.line bytes ≡ Broken line) (λ bytes. next_head false b.line bytes ≡ Open) s
+    → faults ≤ now → Stops now last mid rest b c (λ whole bytes line. next_head whole b.line bytes ≡ Broken line) (λ bytes. next_head false b.line bytes ≡ Open) s
     → Stops faults last source rest a c (IsBrokenBehind len a.line) (WaitsBehind len a.line) s
-stops_behind faults now last source mid rest a b c len body (stop.BadScript line) s same u =
+stops_behind faults now last source mid rest a b c len body (stop.BadScript line) s grown u =
     Takes-joined source mid rest a b c (λ x. ReadsBody a x b len body) (λ y. next_head c.ended b.line (b.unused ++ y) ≡ Broken line)
     (λ z. IsBrokenBehind len a.line c.ended (a.unused ++ z) line) s u (λ x y p q none stays.
     inr (body, b.unused ++ y, behind c.ended a b x y body len p none stays, ap (λ n. next_head c.ended n (b.unused ++ y)) (sym p.line) ∙ q))
-stops_behind faults now last source mid rest a b c len body stop.Fault s same u =
+stops_behind faults now last source mid rest a b c len body stop.Fault s grown u =
     Stops-after faults now last source mid rest a b c (λ x. ReadsBody a x b len body) (λ whole bytes line. next_head whole b.line bytes ≡ Broken line) (λ whole bytes line. Unit {0})
-    (λ bytes. next_head false b.line bytes ≡ Open) (WaitsBehind len a.line) stop.Fault s same u (λ x y whole line p q. tt) (λ x y p q. waits_behind a b len body u.2 x y p q)
-stops_behind faults now last source mid rest a b c len body stop.TooLong s same u =
+    (λ bytes. next_head false b.line bytes ≡ Open) (WaitsBehind len a.line) stop.Fault s grown u (λ x y whole line p q. tt) (λ x y p q. waits_behind a b len body u.2 x y p q)
+stops_behind faults now last source mid rest a b c len body stop.TooLong s grown u =
     Stops-after faults now last source mid rest a b c (λ x. ReadsBody a x b len body) (λ whole bytes line. next_head whole b.line bytes ≡ Broken line) (λ whole bytes line. Unit {0})
-    (λ bytes. next_head false b.line bytes ≡ Open) (WaitsBehind len a.line) stop.TooLong s same u (λ x y whole line p q. tt) (λ x y p q. waits_behind a b len body u.5 x y p q)
-stops_behind faults now last source mid rest a b c len body stop.NoMemory s same u =
+    (λ bytes. next_head false b.line bytes ≡ Open) (WaitsBehind len a.line) stop.TooLong s grown u (λ x y whole line p q. tt) (λ x y p q. waits_behind a b len body u.5 x y p q)
+stops_behind faults now last source mid rest a b c len body stop.NoMemory s grown u =
     Stops-after faults now last source mid rest a b c (λ x. ReadsBody a x b len body) (λ whole bytes line. next_head whole b.line bytes ≡ Broken line) (λ whole bytes line. Unit {0})
-    (λ bytes. next_head false b.line bytes ≡ Open) (λ bytes. Unit {0}) stop.NoMemory s same u (λ x y whole line p q. tt) (λ x y p q. tt)
+    (λ bytes. next_head false b.line bytes ≡ Open) (λ bytes. Unit {0}) stop.NoMemory s grown u (λ x y whole line p q. tt) (λ x y p q. tt)
 
 -- ---- both, whichever comes
 
@@ -81,10 +80,10 @@ ok_behind source mid rest a b c len body (Ok found) s u = reads_behind source mi
 ok_behind source mid rest a b c len body (Err e) s u = tt
 
 pub err_behind : (faults now last : ℕ) (source mid rest : Option (List ℕ)) (a b c : Reader) (len : ℕ) (body : List ℕ) (r : Result head.Head ReadStop) → Takes source mid a b (λ x. ReadsBody a x b len body)
-    → now ≡ faults → IfErr r (Stops now last mid rest b c (λ whole bytes line. next_head whole b.line bytes ≡ Broken line) (λ bytes. next_head false b.line bytes ≡ Open))
+    → faults ≤ now → IfErr r (Stops now last mid rest b c (λ whole bytes line. next_head whole b.line bytes ≡ Broken line) (λ bytes. next_head false b.line bytes ≡ Open))
     → IfErr r (Stops faults last source rest a c (IsBrokenBehind len a.line) (WaitsBehind len a.line))
-err_behind faults now last source mid rest a b c len body (Ok found) s same u = tt
-err_behind faults now last source mid rest a b c len body (Err e) s same u = stops_behind faults now last source mid rest a b c len body e s same u
+err_behind faults now last source mid rest a b c len body (Ok found) s grown u = tt
+err_behind faults now last source mid rest a b c len body (Err e) s grown u = stops_behind faults now last source mid rest a b c len body e s grown u
 
 -- ---- the body's length
 

@@ -1,5 +1,5 @@
 -- A command that is spelled out is the command that stands next.
-use Rattle.std.proofs.Common.{◌≡◌, ◌≢◌, ◌⊎◌, inl, inr, ℕ, ◌+◌, ◌<◌, ◌≤◌, ◌^◌, ◌&&◌, ◌==◌, eqb, Bool, true, false, true≢false, cond, not, List, [], ◌∷◌, ◌++◌, Some, None, length, take, drop, nat_lt, refl, sym, ap, ◌∙◌, subst, arith, append_assoc, length-append}
+use Rattle.std.proofs.Common.{◌≡◌, ◌≢◌, inl, inr, ℕ, ◌+◌, ◌<◌, ◌≤◌, ◌^◌, ◌&&◌, ◌==◌, Bool, true, false, true≢false, cond, not, List, [], ◌∷◌, ◌++◌, Some, length, take, drop, nat_lt, refl, sym, ap, ◌∙◌, subst, arith, append_assoc, length-append}
 use Rattle.std.specs.Prelude.{codes}
 use Rattle.std.specs.List.{list_all, AllByRecursion}
 use Rattle.std.specs.Fmt.{decimal}
@@ -8,7 +8,7 @@ use Rattle.std.proofs.lemmas.List.{take_at, drop_at}
 use Rattle.hack_base.specs.Script.{IsNameByte, newline, space}
 use Rattle.script_text.specs.Heads as heads
 use Rattle.script_text.specs.Heads.{Head, split_first, is_digit, head_of_line}
-use Rattle.script_text.specs.Script.{Found, Broken, Open, found, last_head, line_head, next_head, Body, Bad, More, behind_body, next_body, newlines, Command, File, Drop, Check, Begin, Wait, One, with_body, with_head, next_command}
+use Rattle.script_text.specs.Script.{Found, found, line_head, next_head, Body, Bad, More, behind_body, next_body, newlines, Command, File, Drop, Check, Begin, Wait, One, with_body, with_head, next_command}
 use Rattle.script_text.specs.Spelling.{IsWithinLimits, spelling, IsWithin, command_spelling, lines_of}
 use Rattle.script_text.proofs.Numbers.{decimal-digits}
 use Rattle.script_text.proofs.Splits.{split_first-found}

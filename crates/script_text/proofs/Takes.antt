@@ -1,5 +1,5 @@
 -- Calls that take bytes of a source, one after another.
-use Rattle.std.proofs.Common.{◌≡◌, ◌⊎◌, inl, inr, ℕ, ◌+◌, ◌^◌, ◌-◌, Bool, true, false, List, [], ◌∷◌, ◌++◌, length, refl, sym, ap, ◌∙◌, subst, arith, append_assoc, append-nil, length-append}
+use Rattle.std.proofs.Common.{◌≡◌, ◌⊎◌, inl, inr, ℕ, ◌+◌, ◌^◌, ◌-◌, ◌≤◌, Bool, true, false, List, [], ◌∷◌, ◌++◌, length, refl, sym, ap, ◌∙◌, subst, arith, append_assoc, append-nil, length-append}
 use Rattle.std.specs.Prelude.{Option}
 use Rattle.std.specs.Io.KnownBytes.{Consumes, Keeps, IsAtEnd}
 use Rattle.std.proofs.KnownBytes.{Consumes-nil, Consumes-trans, Consumes-kept}
@@ -95,19 +95,23 @@ was_open : (x y : Bool) → (x ≡ true → y ≡ true) → y ≡ false → x �
 was_open true y stays e = let p : y ≡ true = stays refl in absurd cc
 was_open false y stays e = refl
 
+-- a count that rose rose from any earlier one too
+rose_from : (faults now last : ℕ) → faults ≤ now → Rose now last → Rose faults last
+rose_from faults now last grown rose = omega arith
+
 -- a stop after bytes were taken
 pub Stops-after : (faults now last : ℕ) (source mid rest : Option (List ℕ)) (a b c : Reader) (P : List ℕ → Type 0) (broken wanted : Bool → List ℕ → ℕ → Type 0)
-    (waits wants : List ℕ → Type 0) (s : ReadStop) → Takes source mid a b P → now ≡ faults → Stops now last mid rest b c broken waits s
+    (waits wants : List ℕ → Type 0) (s : ReadStop) → Takes source mid a b P → faults ≤ now → Stops now last mid rest b c broken waits s
     → ((x y : List ℕ) (whole : Bool) (line : ℕ) → P x → broken whole (b.unused ++ y) line → wanted whole (a.unused ++ (x ++ y)) line)
     → ((x y : List ℕ) → P x → waits (b.unused ++ y) → wants (a.unused ++ (x ++ y))) → Stops faults last source rest a c wanted wants s
-Stops-after faults now last source mid rest a b c P broken wanted waits wants (stop.BadScript line) s same t f h =
+Stops-after faults now last source mid rest a b c P broken wanted waits wants (stop.BadScript line) s grown t f h =
     Takes-trans source mid rest a b c P (λ y. broken c.ended (b.unused ++ y) line) (λ z. wanted c.ended (a.unused ++ z) line) s t (λ x y p q. f x y c.ended line p q)
-Stops-after faults now last source mid rest a b c P broken wanted waits wants stop.Fault s same t f h = (
-  subst (λ n. Rose n last) same t.0,
+Stops-after faults now last source mid rest a b c P broken wanted waits wants stop.Fault s grown t f h = (
+  rose_from faults now last grown t.0,
   Takes-trans source mid rest a b c P (λ y. waits (b.unused ++ y)) (λ z. wants (a.unused ++ z)) s t.1 (λ x y p q. h x y p q),
   was_open a.ended b.ended s.stays t.2,
 )
-Stops-after faults now last source mid rest a b c P broken wanted waits wants stop.TooLong s same t f h = (
+Stops-after faults now last source mid rest a b c P broken wanted waits wants stop.TooLong s grown t f h = (
   s.more ++ t.0,
   t.1,
   subst (Consumes source rest) (sym (append_assoc s.more t.0 (t.1 ∷ []))) (Consumes-trans source mid rest s.more (t.0 ++ t.1 ∷ []) s.consumed t.2),
@@ -115,7 +119,7 @@ Stops-after faults now last source mid rest a b c P broken wanted waits wants st
   h s.more t.0 s.holds t.4,
   was_open a.ended b.ended s.stays t.5,
 )
-Stops-after faults now last source mid rest a b c P broken wanted waits wants stop.NoMemory s same t f h =
+Stops-after faults now last source mid rest a b c P broken wanted waits wants stop.NoMemory s grown t f h =
     Takes-trans source mid rest a b c P (λ _. Unit {0}) (λ _. Unit {0}) s t (λ x y p q. tt)
 
 -- 2^31 - 1 bytes were taken, and the source gave a further byte or failed

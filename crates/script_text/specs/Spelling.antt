@@ -2,7 +2,6 @@
 use Rattle.std.specs.Prelude.{◌≤◌, ◌+◌, ◌^◌, ℕ, List, ◌++◌, length, codes}
 use Rattle.std.specs.Fmt.{decimal}
 use Rattle.hack_base.specs.Script.{IsFileName, newline, space}
-use Rattle.script_text.specs.Heads as heads
 use Rattle.script_text.specs.Heads.{Head, File, Drop, Check, Begin, Wait, Quit}
 use Rattle.script_text.specs.Script as script
 use Rattle.script_text.specs.Script.{Command, newlines}

@@ -71,7 +71,8 @@ impl Buffer {
         ensures count { IfOk result (λ count. count ≤ most) }
         ensures grown { IfOk result (λ count. length self.new ≡ length self.old + count) }
         ensures front { OnOk result (take (length self.old) self.new ≡ self.old) }
-        ensures taken { OnOk result (Consumes (S.left source.old) (S.left source.new) (drop (length self.old) self.new)) }
+        ensures taken { OnOk result (Consumes (S.left source.old) (S.left source.new)
+            (drop (length self.old) self.new)) }
         ensures end { IfOk result (λ count. count ≡ 0 → IsAtEnd (S.left source.new)) }
         ensures err { OnErr result (Keeps (S.left source.old) (S.left source.new)) }
         ensures kept { OnErr result (self.new ≡ self.old) }
@@ -99,7 +100,8 @@ fn with_room(bytes: &mut Vec<u8>, start: usize, end: usize) -> (usize, usize)
     requires order { start ≤ end }
     requires inside { end ≤ vec_len bytes.old }
     requires few { end - start < vec_len bytes.old }
-    ensures same { slice_range bytes.new.items result.0 result.1 ≡ slice_range bytes.old.items start end }
+    ensures same { slice_range bytes.new.items result.0 result.1
+        ≡ slice_range bytes.old.items start end }
     ensures order { result.0 ≤ result.1 }
     ensures room { result.1 < vec_len bytes.new }
     ensures len { vec_len bytes.new ≡ vec_len bytes.old }
@@ -126,7 +128,8 @@ fn pull_behind<S: Source>(
     ensures count { IfOk result (λ count. count ≤ most) }
     ensures inside { IfOk result (λ count. end + count ≤ length bytes.new) }
     ensures front { take end bytes.new ≡ take end bytes.old }
-    ensures taken { IfOk result (λ count. Consumes (S.left source.old) (S.left source.new) (slice_range bytes.new end (end + count))) }
+    ensures taken { IfOk result (λ count. Consumes (S.left source.old) (S.left source.new)
+        (slice_range bytes.new end (end + count))) }
     ensures end { IfOk result (λ count. count ≡ 0 → IsAtEnd (S.left source.new)) }
     ensures err { OnErr result (Keeps (S.left source.old) (S.left source.new)) }
     ensures cause { HasCause (S.faults source.old) (S.faults source.new) result }

@@ -58,7 +58,13 @@ impl ScriptReader {
 
     /// A reader that has taken nothing, in line 1, where a command may begin.
     pub fn new(alloc: Global) -> Result<ScriptReader, NoMemory>
-        ensures { IfOk result (λ reader. reader ≡ record { unused = []; taken = 0; ended = false; line = 1; stand = StandsBeforeHead }) }
+        ensures { IfOk result (λ reader. reader ≡ record {
+          unused = [];
+          taken = 0;
+          ended = false;
+          line = 1;
+          stand = StandsBeforeHead;
+        }) }
     {
         let buffer = Buffer::new(alloc)?;
         Ok(ScriptReader {
@@ -82,18 +88,28 @@ impl ScriptReader {
     /// Where the body of a `file` wasn't read it is passed over; behind `quit` nothing is read, and the answer is `Quit` again.
     /// `BadScript` says that the next line that isn't empty is in no form, or that the body to pass over isn't there whole.
     pub fn read_head<S: Source>(&mut self, alloc: Global, source: &mut S) -> Result<Head, ReadStop>
-        ensures head { IfOk result (λ head. self.old.stand ≡ StandsBeforeHead → Takes (S.left source.old) (S.left source.new) self.old self.new
+        ensures head { IfOk result (λ head. self.old.stand ≡ StandsBeforeHead
+            → Takes (S.left source.old) (S.left source.new) self.old self.new
             (λ more. ReadsHead self.old more self.new (head_of head))) }
-        ensures behind_file { IfOk result (λ head. (len : ℕ) → self.old.stand ≡ StandsBeforeBody len → Takes (S.left source.old) (S.left source.new) self.old self.new
+        ensures behind_file { IfOk result (λ head. (len : ℕ)
+            → self.old.stand ≡ StandsBeforeBody len
+            → Takes (S.left source.old) (S.left source.new) self.old self.new
             (λ more. ReadsBehind self.old more self.new len (head_of head))) }
-        ensures behind_quit { self.old.stand ≡ StandsOver → (result ≡ Ok head.Quit) × (self.new ≡ self.old) × (source.new ≡ source.old) }
+        ensures behind_quit { self.old.stand ≡ StandsOver
+            → (result ≡ Ok head.Quit) × (self.new ≡ self.old) × (source.new ≡ source.old) }
         ensures stand { IfOk result (λ head. self.new.stand ≡ stand_after (head_of head)) }
-        ensures faults { OnOk result (S.faults source.new ≡ S.faults source.old) }
+        ensures faults { S.faults source.old ≤ S.faults source.new }
         ensures most { self.new.taken ≤ 2147483647 }
-        ensures stopped { IfErr result (λ stop. self.old.stand ≡ StandsBeforeHead → Stops (S.faults source.old) (S.faults source.new) (S.left source.old) (S.left source.new) self.old self.new
-            (λ whole bytes line. next_head whole self.old.line bytes ≡ Broken line) (λ bytes. next_head false self.old.line bytes ≡ Open) stop) }
-        ensures stopped_behind_file { IfErr result (λ stop. (len : ℕ) → self.old.stand ≡ StandsBeforeBody len → Stops (S.faults source.old) (S.faults source.new) (S.left source.old) (S.left source.new)
-            self.old self.new (IsBrokenBehind len self.old.line) (WaitsBehind len self.old.line) stop) }
+        ensures stopped { IfErr result (λ stop. self.old.stand ≡ StandsBeforeHead
+            → Stops (S.faults source.old) (S.faults source.new)
+            (S.left source.old) (S.left source.new) self.old self.new
+            (λ whole bytes line. next_head whole self.old.line bytes ≡ Broken line)
+            (λ bytes. next_head false self.old.line bytes ≡ Open) stop) }
+        ensures stopped_behind_file { IfErr result
+            (λ stop. (len : ℕ) → self.old.stand ≡ StandsBeforeBody len
+            → Stops (S.faults source.old) (S.faults source.new)
+            (S.left source.old) (S.left source.new) self.old self.new
+            (IsBrokenBehind len self.old.line) (WaitsBehind len self.old.line) stop) }
     {
         match self.stand {
             Stand::BeforeHead => self.next_head(alloc, source),
@@ -110,11 +126,14 @@ impl ScriptReader {
         len: u64,
     ) -> Result<Head, ReadStop>
         requires { self.old.stand ≡ StandsBeforeBody len }
-        ensures head { IfOk result (λ head. Takes (S.left source.old) (S.left source.new) self.old self.new (λ more. ReadsBehind self.old more self.new len (head_of head))) }
+        ensures head { IfOk result (λ head.
+            Takes (S.left source.old) (S.left source.new) self.old self.new
+            (λ more. ReadsBehind self.old more self.new len (head_of head))) }
         ensures stand { IfOk result (λ head. self.new.stand ≡ stand_after (head_of head)) }
-        ensures faults { OnOk result (S.faults source.new ≡ S.faults source.old) }
+        ensures faults { S.faults source.old ≤ S.faults source.new }
         ensures most { self.new.taken ≤ 2147483647 }
-        ensures stopped { IfErr result (Stops (S.faults source.old) (S.faults source.new) (S.left source.old) (S.left source.new) self.old self.new
+        ensures stopped { IfErr result (Stops (S.faults source.old) (S.faults source.new)
+            (S.left source.old) (S.left source.new) self.old self.new
             (IsBrokenBehind len self.old.line) (WaitsBehind len self.old.line)) }
     {
         let _passed = self.read_body(alloc, source, len)?;
@@ -124,13 +143,16 @@ impl ScriptReader {
     /// The head that stands next where a command may begin.
     fn next_head<S: Source>(&mut self, alloc: Global, source: &mut S) -> Result<Head, ReadStop>
         requires { self.old.stand ≡ StandsBeforeHead }
-        ensures head { IfOk result (λ head. Takes (S.left source.old) (S.left source.new) self.old self.new
+        ensures head { IfOk result (λ head.
+            Takes (S.left source.old) (S.left source.new) self.old self.new
             (λ more. ReadsHead self.old more self.new (head_of head))) }
         ensures stand { IfOk result (λ head. self.new.stand ≡ stand_after (head_of head)) }
-        ensures faults { OnOk result (S.faults source.new ≡ S.faults source.old) }
+        ensures faults { S.faults source.old ≤ S.faults source.new }
         ensures most { self.new.taken ≤ 2147483647 }
-        ensures stopped { IfErr result (Stops (S.faults source.old) (S.faults source.new) (S.left source.old) (S.left source.new) self.old self.new
-            (λ whole bytes line. next_head whole self.old.line bytes ≡ Broken line) (λ bytes. next_head false self.old.line bytes ≡ Open)) }
+        ensures stopped { IfErr result (Stops (S.faults source.old) (S.faults source.new)
+            (S.left source.old) (S.left source.new) self.old self.new
+            (λ whole bytes line. next_head whole self.old.line bytes ≡ Broken line)
+            (λ bytes. next_head false self.old.line bytes ≡ Open)) }
     {
         if !self.skip_empty_lines(source)? {
             return Ok(Head::End);
@@ -150,13 +172,16 @@ impl ScriptReader {
         len: u64,
     ) -> Result<Vec<u8>, ReadStop>
         requires { self.old.stand ≡ StandsBeforeBody len }
-        ensures body { IfOk result (λ body. Takes (S.left source.old) (S.left source.new) self.old self.new
+        ensures body { IfOk result (λ body.
+            Takes (S.left source.old) (S.left source.new) self.old self.new
             (λ more. ReadsBody self.old more self.new len body.items)) }
         ensures stand { OnOk result (self.new.stand ≡ StandsBeforeHead) }
-        ensures faults { OnOk result (S.faults source.new ≡ S.faults source.old) }
+        ensures faults { S.faults source.old ≤ S.faults source.new }
         ensures most { self.new.taken ≤ 2147483647 }
-        ensures stopped { IfErr result (Stops (S.faults source.old) (S.faults source.new) (S.left source.old) (S.left source.new) self.old self.new
-            (λ whole bytes line. (next_body whole len bytes ≡ Bad) × (line + 1 ≡ self.old.line)) (λ bytes. next_body false len bytes ≡ More)) }
+        ensures stopped { IfErr result (Stops (S.faults source.old) (S.faults source.new)
+            (S.left source.old) (S.left source.new) self.old self.new
+            (λ whole bytes line. (next_body whole len bytes ≡ Bad) × (line + 1 ≡ self.old.line))
+            (λ bytes. next_body false len bytes ≡ More)) }
     {
         // What every reader keeps is known from here on, also where memory runs out.
         let _ = &self.taken;
@@ -171,11 +196,14 @@ impl ScriptReader {
     fn fill<S: Source>(&mut self, source: &mut S) -> Result<(), ReadStop>
         requires few { length self.old.unused ≤ 300 }
         requires unended { self.old.ended ≡ false }
-        ensures filled { OnOk result (Takes (S.left source.old) (S.left source.new) self.old self.new (IsFilled self.old self.new)) }
+        ensures filled { OnOk result
+            (Takes (S.left source.old) (S.left source.new) self.old self.new
+            (IsFilled self.old self.new)) }
         ensures place { OnOk result (SamePlace self.old self.new) }
-        ensures faults { OnOk result (S.faults source.new ≡ S.faults source.old) }
+        ensures faults { S.faults source.old ≤ S.faults source.new }
         ensures most { self.new.taken ≤ 2147483647 }
-        ensures stopped { IfErr result (Stops (S.faults source.old) (S.faults source.new) (S.left source.old) (S.left source.new) self.old self.new
+        ensures stopped { IfErr result (Stops (S.faults source.old) (S.faults source.new)
+            (S.left source.old) (S.left source.new) self.old self.new
             (λ whole bytes line. ⊥) (λ bytes. bytes ≡ self.old.unused)) }
     {
         let left = MAX_SCRIPT - self.taken;
@@ -193,12 +221,14 @@ impl ScriptReader {
     /// Skips empty lines, and answers whether a byte of another line is there.
     fn skip_empty_lines<S: Source>(&mut self, source: &mut S) -> Result<bool, ReadStop>
         ensures same { OnOk result (Takes (S.left source.old) (S.left source.new) self.old self.new
-            (λ more. SameNext self.old.line (self.old.unused ++ more) self.new.line self.new.unused)) }
+            (λ more. SameNext self.old.line (self.old.unused ++ more)
+            self.new.line self.new.unused)) }
         ensures skipped { IfOk result (λ there. IsSkipped there self.new) }
         ensures stand { OnOk result (self.new.stand ≡ self.old.stand) }
-        ensures faults { OnOk result (S.faults source.new ≡ S.faults source.old) }
+        ensures faults { S.faults source.old ≤ S.faults source.new }
         ensures most { self.new.taken ≤ 2147483647 }
-        ensures stopped { IfErr result (Stops (S.faults source.old) (S.faults source.new) (S.left source.old) (S.left source.new) self.old self.new
+        ensures stopped { IfErr result (Stops (S.faults source.old) (S.faults source.new)
+            (S.left source.old) (S.left source.new) self.old self.new
             (λ whole bytes line. ⊥) (λ bytes. next_head false self.old.line bytes ≡ Open)) }
     {
         loop {
@@ -217,13 +247,17 @@ impl ScriptReader {
     /// The index of the LF that ends the line, or `None` where it has none: at the source's end, or above 300 bytes.
     fn line_end<S: Source>(&mut self, source: &mut S) -> Result<Option<usize>, ReadStop>
         requires { IsLineStart self.old.unused }
-        ensures taken { OnOk result (Takes (S.left source.old) (S.left source.new) self.old self.new (λ more. self.new.unused ≡ self.old.unused ++ more)) }
+        ensures taken { OnOk result
+            (Takes (S.left source.old) (S.left source.new) self.old self.new
+            (λ more. self.new.unused ≡ self.old.unused ++ more)) }
         ensures place { OnOk result (SamePlace self.old self.new) }
-        ensures inside { IfOk result (λ end. IfSome end (λ at. (1 ≤ at) × (at < length self.new.unused))) }
+        ensures inside { IfOk result (λ end. IfSome end
+            (λ at. (1 ≤ at) × (at < length self.new.unused))) }
         ensures end { IfOk result (IsLineEnd self.new) }
-        ensures faults { OnOk result (S.faults source.new ≡ S.faults source.old) }
+        ensures faults { S.faults source.old ≤ S.faults source.new }
         ensures most { self.new.taken ≤ 2147483647 }
-        ensures stopped { IfErr result (Stops (S.faults source.old) (S.faults source.new) (S.left source.old) (S.left source.new) self.old self.new
+        ensures stopped { IfErr result (Stops (S.faults source.old) (S.faults source.new)
+            (S.left source.old) (S.left source.new) self.old self.new
             (λ whole bytes line. ⊥) (λ bytes. next_head false self.old.line bytes ≡ Open)) }
     {
         let mut seen = 0;
@@ -251,7 +285,8 @@ impl ScriptReader {
         ensures line { OnOk result (self.new.line ≡ self.old.line + 1) }
         ensures taken { OnOk result (self.new.taken ≡ self.old.taken) }
         ensures ended { OnOk result (self.new.ended ≡ self.old.ended) }
-        ensures stopped { IfErr result (λ s. (s ≡ stop.NoMemory) ⊎ ((s ≡ stop.BadScript self.old.line) × (head_found self.old.unused end ≡ None))) }
+        ensures stopped { IfErr result (λ s. (s ≡ stop.NoMemory)
+            ⊎ ((s ≡ stop.BadScript self.old.line) × (head_found self.old.unused end ≡ None))) }
         ensures kept { OnErr result (self.new ≡ self.old) }
         ensures most { self.new.taken ≤ 2147483647 }
     {
@@ -277,11 +312,15 @@ impl ScriptReader {
         ensures taken { OnOk result (Takes (S.left source.old) (S.left source.new) self.old self.new
             (λ more. self.old.unused ++ more ≡ body.new ++ self.new.unused)) }
         ensures place { OnOk result (SamePlace self.old self.new) }
-        ensures lines { OnOk result (self.new.line + length body.new + length self.new.unused ≤ self.new.taken) }
-        ensures faults { OnOk result (S.faults source.new ≡ S.faults source.old) }
+        ensures lines { OnOk result
+            (self.new.line + length body.new + length self.new.unused ≤ self.new.taken) }
+        ensures faults { S.faults source.old ≤ S.faults source.new }
         ensures most { self.new.taken ≤ 2147483647 }
-        ensures stopped { IfErr result (Stops (S.faults source.old) (S.faults source.new) (S.left source.old) (S.left source.new) self.old self.new
-            (λ whole bytes line. (whole ≡ true) × (length bytes < length body.old) × (line + 1 ≡ self.old.line)) (λ bytes. length bytes < length body.old)) }
+        ensures stopped { IfErr result (Stops (S.faults source.old) (S.faults source.new)
+            (S.left source.old) (S.left source.new) self.old self.new
+            (λ whole bytes line. (whole ≡ true) × (length bytes < length body.old)
+            × (line + 1 ≡ self.old.line))
+            (λ bytes. length bytes < length body.old)) }
     {
         let mut filled = self.take_front(body);
         while filled < body.len() {
@@ -301,7 +340,8 @@ impl ScriptReader {
         ensures moved { take result body.new ≡ take result self.old.unused }
         ensures rest { self.new ≡ record self.old { unused = drop result self.old.unused } }
         ensures most { self.new.taken ≤ 2147483647 }
-        ensures lines { self.new.line + result + length self.new.unused + head_bytes self.new.stand ≤ self.new.taken + 1 }
+        ensures lines { self.new.line + result + length self.new.unused + head_bytes self.new.stand
+            ≤ self.new.taken + 1 }
     {
         let bytes = self.buffer.bytes();
         let count = body.len().min(bytes.len());
@@ -315,13 +355,15 @@ impl ScriptReader {
         requires some { 0 < length rest.old }
         requires unended { self.old.ended ≡ false }
         ensures inside { IfOk result (λ count. count ≤ length rest.new) }
-        ensures taken { IfOk result (λ count. Takes (S.left source.old) (S.left source.new) self.old self.new
+        ensures taken { IfOk result (λ count.
+            Takes (S.left source.old) (S.left source.new) self.old self.new
             (λ more. (more ≡ take count rest.new) × (self.new.ended ≡ false → 1 ≤ count))) }
         ensures unused { OnOk result (self.new.unused ≡ self.old.unused) }
         ensures place { OnOk result (SamePlace self.old self.new) }
-        ensures faults { OnOk result (S.faults source.new ≡ S.faults source.old) }
+        ensures faults { S.faults source.old ≤ S.faults source.new }
         ensures most { self.new.taken ≤ 2147483647 }
-        ensures stopped { IfErr result (Stops (S.faults source.old) (S.faults source.new) (S.left source.old) (S.left source.new) self.old self.new
+        ensures stopped { IfErr result (Stops (S.faults source.old) (S.faults source.new)
+            (S.left source.old) (S.left source.new) self.old self.new
             (λ whole bytes line. ⊥) (λ bytes. bytes ≡ self.old.unused)) }
     {
         let left = MAX_SCRIPT - self.taken;
@@ -339,12 +381,15 @@ impl ScriptReader {
 
     /// Takes more bytes where none are left, unless the source has ended.
     fn fill_empty<S: Source>(&mut self, source: &mut S) -> Result<(), ReadStop>
-        ensures filled { OnOk result (Takes (S.left source.old) (S.left source.new) self.old self.new (λ more. self.new.unused ≡ self.old.unused ++ more)) }
+        ensures filled { OnOk result
+            (Takes (S.left source.old) (S.left source.new) self.old self.new
+            (λ more. self.new.unused ≡ self.old.unused ++ more)) }
         ensures there { OnOk result (self.new.unused ≡ [] → self.new.ended ≡ true) }
         ensures place { OnOk result (SamePlace self.old self.new) }
-        ensures faults { OnOk result (S.faults source.new ≡ S.faults source.old) }
+        ensures faults { S.faults source.old ≤ S.faults source.new }
         ensures most { self.new.taken ≤ 2147483647 }
-        ensures stopped { IfErr result (Stops (S.faults source.old) (S.faults source.new) (S.left source.old) (S.left source.new) self.old self.new
+        ensures stopped { IfErr result (Stops (S.faults source.old) (S.faults source.new)
+            (S.left source.old) (S.left source.new) self.old self.new
             (λ whole bytes line. ⊥) (λ bytes. bytes ≡ [])) }
     {
         if self.ended || !self.buffer.bytes().is_empty() {
@@ -357,12 +402,14 @@ impl ScriptReader {
     fn end_body(&mut self, lines: u64) -> Result<(), ReadStop>
         requires lines { self.old.line + lines + length self.old.unused ≤ self.old.taken }
         requires there { self.old.unused ≡ [] → self.old.ended ≡ true }
-        ensures ended { OnOk result (behind_body self.old.ended [] self.old.unused ≡ Body [] self.new.unused) }
+        ensures ended { OnOk result (behind_body self.old.ended [] self.old.unused
+            ≡ Body [] self.new.unused) }
         ensures taken { OnOk result (self.new.taken ≡ self.old.taken) }
         ensures end { OnOk result (self.new.ended ≡ self.old.ended) }
         ensures line { OnOk result (self.new.line ≡ self.old.line + lines + 1) }
         ensures stand { OnOk result (self.new.stand ≡ StandsBeforeHead) }
-        ensures stopped { IfErr result (λ s. (line : ℕ) × (s ≡ stop.BadScript line) × (line + 1 ≡ self.old.line)
+        ensures stopped { IfErr result (λ s. (line : ℕ) × (s ≡ stop.BadScript line)
+            × (line + 1 ≡ self.old.line)
             × (behind_body self.old.ended [] self.old.unused ≡ Bad)) }
         ensures kept { OnErr result (self.new ≡ self.old) }
         ensures most { self.new.taken ≤ 2147483647 }
@@ -412,9 +459,11 @@ fn count_newlines(bytes: &[u8]) -> u64
 
 /// The source's end. A further byte is one too many.
 fn meet_end<S: Source>(source: &mut S) -> Result<(), ReadStop>
-    ensures end { OnOk result (Keeps (S.left source.old) (S.left source.new) × IsAtEnd (S.left source.new)) }
-    ensures faults { OnOk result (S.faults source.new ≡ S.faults source.old) }
-    ensures stopped { IfErr result (IsNoEnd (S.faults source.old) (S.faults source.new) (S.left source.old) (S.left source.new)) }
+    ensures end { OnOk result (Keeps (S.left source.old) (S.left source.new)
+        × IsAtEnd (S.left source.new)) }
+    ensures faults { S.faults source.old ≤ S.faults source.new }
+    ensures stopped { IfErr result (IsNoEnd (S.faults source.old) (S.faults source.new)
+        (S.left source.old) (S.left source.new)) }
 {
     let mut byte = [0];
     if source.pull(&mut byte)? == 0 {

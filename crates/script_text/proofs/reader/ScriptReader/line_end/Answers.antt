@@ -40,7 +40,7 @@ loop-at-preserved g c =
     record {
       taken = Takes-trans _ _ _ _ _ _ _ _ _ inv.taken filled.filled (λ x y p q. q.unused ∙ ap (λ u. u ++ y) p ∙ append_assoc c.args.self.now.unused x y);
       place = record { line = filled.place.line ∙ inv.place.line; stand = filled.place.stand ∙ inv.place.stand };
-      faults = filled.faults ∙ inv.faults;
+      faults = omega (arith, filled.faults, inv.faults);
       start = subst IsLineStart (sym grown) (start_more was.unused more inv.start);
       inside = omega (arith, seen, size);
       few = omega (arith, seen, few);

@@ -8,7 +8,7 @@ abbrev pub invariant-loop-at : goal.invariant-loop-at
 invariant-loop-at g l = record {
   taken : Takes (g.S.Source.left l.fn.source) (g.S.Source.left l.source) l.fn.self l.self (λ more. l.self.unused ≡ l.fn.self.unused ++ more);
   place : SamePlace l.fn.self l.self;
-  faults : g.S.Source.faults l.source ≡ g.S.Source.faults l.fn.source;
+  faults : g.S.Source.faults l.fn.source ≤ g.S.Source.faults l.source;
   start : IsLineStart l.self.unused;
   inside : l.seen ≤ length l.self.unused;
   few : l.seen ≤ 300;

@@ -1,4 +1,4 @@
-use Rattle.std.proofs.Common.{◌≡◌, ap, sym, ◌∙◌}
+use Rattle.std.proofs.Common.{ap, sym, ◌∙◌}
 use Rattle.script_text.specs.Reader.{Stops, IsBrokenBehind, WaitsBehind}
 use Rattle.script_text.proofs.Behind.{same_len, err_of_len}
 use Rattle.script_text.proofs.reader.ScriptReader.read_head.Goals as goal

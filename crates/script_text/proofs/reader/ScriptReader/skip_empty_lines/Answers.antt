@@ -1,4 +1,4 @@
-use Rattle.std.proofs.Common.{◌≡◌, ◌+◌, false, List, ℕ, [], ◌++◌, drop, sym, ap, ◌∙◌, subst}
+use Rattle.std.proofs.Common.{◌≡◌, ◌+◌, false, List, ℕ, [], ◌++◌, drop, sym, ap, ◌∙◌, subst, arith}
 use Rattle.std.proofs.lemmas.Result.{err_from_is_err_and}
 use Rattle.script_text.specs.Reader.{Reader}
 use Rattle.script_text.specs.Reading.{SameNext}
@@ -31,7 +31,7 @@ loop-self-preserved g c =
       same = Takes-trans _ _ _ _ _ _ _ _ _ c.loop-self.invariant.same filled.filled
           (λ x y p q. skip_more _ was.line _ _ x y was.unused _ p q.unused filled.place.line);
       stand = filled.place.stand ∙ c.loop-self.invariant.stand;
-      faults = filled.faults ∙ c.loop-self.invariant.faults;
+      faults = omega (arith, filled.faults, c.loop-self.invariant.faults);
     }
 
 pub returns-in_err-fill-in-None-2-clause-stopped : goal.returns-in_err-fill-in-None-2-clause-stopped

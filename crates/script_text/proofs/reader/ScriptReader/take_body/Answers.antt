@@ -39,7 +39,7 @@ loop-filled-preserved g c =
       taken = Takes-trans _ _ _ _ _ _ _ _ _ inv.taken now.taken
           (λ x y p q. fill_more a.unused x y was.unused c.pull_into.new.self.unused body part f (length body - f) n inv.inside now.inside p none q.0 now.unused);
       place = record { line = now.place.line ∙ inv.place.line; stand = now.place.stand ∙ inv.place.stand };
-      faults = now.faults ∙ inv.faults;
+      faults = omega (arith, now.faults, inv.faults);
       inside = filled-inside f (length body - f) n body part inv.inside now.inside;
       empty = λ h. now.unused ∙ none;
       most = now.most;

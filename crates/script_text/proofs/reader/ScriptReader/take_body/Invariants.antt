@@ -8,7 +8,7 @@ invariant-loop-filled g l = record {
   taken : Takes (g.S.Source.left l.fn.source) (g.S.Source.left l.source) l.fn.self l.self
       (λ more. l.fn.self.unused ++ more ≡ take l.filled l.body ++ l.self.unused);
   place : SamePlace l.fn.self l.self;
-  faults : g.S.Source.faults l.source ≡ g.S.Source.faults l.fn.source;
+  faults : g.S.Source.faults l.fn.source ≤ g.S.Source.faults l.source;
   inside : l.filled ≤ length l.body;
   empty : l.filled < length l.body → l.self.unused ≡ [];
   most : l.self.taken ≤ 2147483647;
