@@ -2,5 +2,8 @@ pub mod FieldOrder
 pub mod NameLemmas
 pub mod NamesInTypes
 pub mod NodeLemmas
+pub mod PutLemmas
 pub mod RisingLaws
+pub mod SameLaws
 pub mod TextLemmas
+pub mod UnionLemmas

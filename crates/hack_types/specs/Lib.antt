@@ -5,7 +5,10 @@ pub mod OptionOf
 pub mod Places
 pub mod Report
 pub mod Rising
+pub mod SameType
+pub mod Substituted
 pub mod TypeNodes
 pub mod TypeParts
 pub mod TypeText
+pub mod UnionOf
 pub mod formers

@@ -15,7 +15,9 @@ mod type_copy;
 mod type_nodes;
 mod type_option;
 mod type_same;
+mod type_substitute;
 mod type_texts;
+mod type_union;
 
 pub use diag::{Diag, FileDiag};
 pub use fields::{Field, Fields};
@@ -28,4 +30,6 @@ pub use rising::{Members, NameSet};
 pub use shallow::{AliasSig, ClassSig, EnumSig, Member, MemberKind, Shallow, Sort, Visibility};
 pub use signature::{Param, Signature, TypeParam, Variance};
 pub use type_option::{into_option, option_of};
+pub use type_substitute::{SubstStop, substitute};
 pub use type_texts::type_text;
+pub use type_union::union_of;

@@ -16,7 +16,7 @@ impl HackType {
     // What is left of a number of nodes once those of the type are taken from it, where it has as many.
     #[cycle(nodes)]
     #[tactic(auto, using(crate::proofs::NodeLemmas::nodes_of_shape, crate::proofs::NodeLemmas::nodes_of_class, crate::proofs::NodeLemmas::nodes_of_union))]
-    fn take_nodes(&self, left: u32) -> Option<u32>
+    pub(crate) fn take_nodes(&self, left: u32) -> Option<u32>
         ensures some { IfSome result (λ rest. rest + nodes self.now ≡ left) }
         ensures none { IfNone result (left < nodes self.now) }
     {

@@ -1,0 +1,158 @@
+-- What a type becomes where types are put into it: by its outermost constructor, and how many nodes that has at least.
+use Rattle.std.proofs.Common.{◌≡◌, ◌+◌, ◌<◌, ◌≤◌, ℕ, Bool, List, [], ◌∷◌, length, map, take, get_or, sum, sum_by, refl, sym, ap, ◌∙◌, arith, slice_index_or, subst, rules}
+use Rattle.std.proofs.lemmas.Simd.{map-map}
+use Rattle.std.proofs.lemmas.List.Sums.{sum-map, sum_by_more_le}
+use Rattle.hack_types.specs.OptionOf.{option_by, option_of}
+use Rattle.hack_types.specs.Rising.{FieldsRise}
+use Rattle.hack_types.specs.Substituted.{substitute, substitute_by}
+use Rattle.hack_types.specs.TypeNodes.{nodes, node_count}
+use Rattle.hack_types.specs.declared.fields.Field.{Field}
+use Rattle.hack_types.specs.declared.hack_type.HackType.{HackType, out-HackType, roll-HackType, the_lemmas}
+use Rattle.hack_types.specs.declared.hack_type.HackType.TheOpen.{HackType-F}
+use Rattle.hack_types.specs.declared.hack_type.HackType.TheFolds.{fold-roll-HackType, fold_out-HackType}
+use Rattle.hack_types.specs.declared.hack_type.HackType.TheVariants as v
+use Rattle.hack_types.specs.formers.fields.Fields.{on_type}
+use Rattle.hack_types.proofs.NodeLemmas.{nodes_of_class, nodes_of_shape}
+
+-- no type is without a node
+count_positive : (layer : HackType-F ℕ) → 1 ≤ node_count layer
+count_positive HackType-F.Any = omega arith
+count_positive HackType-F.Mixed = omega arith
+count_positive HackType-F.Nonnull = omega arith
+count_positive HackType-F.Nothing = omega arith
+count_positive HackType-F.Null = omega arith
+count_positive HackType-F.Void = omega arith
+count_positive HackType-F.Noreturn = omega arith
+count_positive HackType-F.Bool = omega arith
+count_positive HackType-F.Int = omega arith
+count_positive HackType-F.Float = omega arith
+count_positive HackType-F.Num = omega arith
+count_positive HackType-F.Str = omega arith
+count_positive HackType-F.Arraykey = omega arith
+count_positive HackType-F.This = omega arith
+count_positive (HackType-F.Option t) = omega arith
+count_positive (HackType-F.Vector t) = omega arith
+count_positive (HackType-F.Dict k t) = omega arith
+count_positive (HackType-F.Keyset t) = omega arith
+count_positive (HackType-F.Shape fields rest) = omega arith
+count_positive (HackType-F.Class name types) = omega arith
+count_positive (HackType-F.ClassParam position name) = omega arith
+count_positive (HackType-F.FunParam position name) = omega arith
+count_positive (HackType-F.Union types) = omega arith
+
+pub nodes_positive : (type : HackType) → 1 ≤ nodes type
+nodes_positive type = subst (λ n. 1 ≤ n) (sym (fold_out-HackType ℕ node_count type)) (count_positive _)
+
+rolled : (type : HackType) → type ≡ roll-HackType (out-HackType type)
+rolled type = search (rules, the_lemmas)
+
+option_nodes : (type : HackType) → nodes type ≤ nodes (v.Option type)
+option_nodes type = let e : nodes (v.Option type) ≡ 1 + nodes type = ap nodes (sym (v.rolls-Option type)) ∙ fold-roll-HackType ℕ node_count (HackType-F.Option type) in omega (arith, e)
+
+itself : (type : HackType) → nodes type ≤ nodes type
+itself type = omega arith
+
+one_node : (type other : HackType) → nodes type ≡ 1 → nodes type ≤ nodes other
+one_node type other e = omega (arith, e, nodes_positive other)
+
+option_count : (type : HackType) (layer : HackType-F HackType) → type ≡ roll-HackType layer → nodes type ≤ nodes (option_by type layer)
+option_count type HackType-F.Any is = itself type
+option_count type HackType-F.Mixed is = itself type
+option_count type HackType-F.Null is = itself type
+option_count type (HackType-F.Option t) is = itself type
+option_count type HackType-F.Nothing is = one_node type v.Null (ap nodes is ∙ fold-roll-HackType ℕ node_count HackType-F.Nothing)
+option_count type HackType-F.Nonnull is = one_node type v.Mixed (ap nodes is ∙ fold-roll-HackType ℕ node_count HackType-F.Nonnull)
+option_count type HackType-F.Void is = option_nodes type
+option_count type HackType-F.Noreturn is = option_nodes type
+option_count type HackType-F.Bool is = option_nodes type
+option_count type HackType-F.Int is = option_nodes type
+option_count type HackType-F.Float is = option_nodes type
+option_count type HackType-F.Num is = option_nodes type
+option_count type HackType-F.Str is = option_nodes type
+option_count type HackType-F.Arraykey is = option_nodes type
+option_count type HackType-F.This is = option_nodes type
+option_count type (HackType-F.Vector t) is = option_nodes type
+option_count type (HackType-F.Dict k t) is = option_nodes type
+option_count type (HackType-F.Keyset t) is = option_nodes type
+option_count type (HackType-F.Shape fields rest) is = option_nodes type
+option_count type (HackType-F.Class name types) is = option_nodes type
+option_count type (HackType-F.ClassParam position name) is = option_nodes type
+option_count type (HackType-F.FunParam position name) is = option_nodes type
+option_count type (HackType-F.Union types) is = option_nodes type
+
+option_has_nodes : (type : HackType) → nodes type ≤ nodes (option_of type)
+option_has_nodes type = option_count type (out-HackType type) (rolled type)
+
+module _ (args : List HackType) where
+  abbrev put : HackType → HackType
+  put = substitute args
+
+  pub put_class : (name : ℕ) (types : List HackType) → substitute args (v.Class name types) ≡ v.Class name (map (substitute args) types)
+  unfolding substitute
+  put_class name types = ap put (sym (v.rolls-Class name types)) ∙ fold-roll-HackType HackType (substitute_by args) (HackType-F.Class name types) ∙ v.rolls-Class name (map put types)
+
+  pub put_shape : (fields : List (Field HackType)) (rest : Bool) → substitute args (v.Shape fields rest) ≡ v.Shape (map (on_type (substitute args)) fields) rest
+  unfolding substitute
+  put_shape fields rest = ap put (sym (v.rolls-Shape fields rest)) ∙ fold-roll-HackType HackType (substitute_by args) (HackType-F.Shape fields rest) ∙ v.rolls-Shape (map (on_type put) fields) rest
+
+  pub put_option : (type : HackType) → substitute args (v.Option type) ≡ option_of (substitute args type)
+  unfolding substitute
+  put_option type = ap put (sym (v.rolls-Option type)) ∙ fold-roll-HackType HackType (substitute_by args) (HackType-F.Option type)
+
+  pub put_param : (position name : ℕ) → substitute args (v.ClassParam position name) ≡ slice_index_or args position v.Any
+  unfolding substitute
+  put_param position name = ap put (sym (v.rolls-ClassParam position name)) ∙ fold-roll-HackType HackType (substitute_by args) (HackType-F.ClassParam position name)
+
+  pub put_vector : (type : HackType) → substitute args (v.Vector type) ≡ v.Vector (substitute args type)
+  unfolding substitute
+  put_vector type = ap put (sym (v.rolls-Vector type)) ∙ fold-roll-HackType HackType (substitute_by args) (HackType-F.Vector type) ∙ v.rolls-Vector (put type)
+
+  pub put_keyset : (type : HackType) → substitute args (v.Keyset type) ≡ v.Keyset (substitute args type)
+  unfolding substitute
+  put_keyset type = ap put (sym (v.rolls-Keyset type)) ∙ fold-roll-HackType HackType (substitute_by args) (HackType-F.Keyset type) ∙ v.rolls-Keyset (put type)
+
+  pub put_dict : (key value : HackType) → substitute args (v.Dict key value) ≡ v.Dict (substitute args key) (substitute args value)
+  unfolding substitute
+  put_dict key value = ap put (sym (v.rolls-Dict key value)) ∙ fold-roll-HackType HackType (substitute_by args) (HackType-F.Dict key value) ∙ v.rolls-Dict (put key) (put value)
+
+  pub least_of_param : (position name : ℕ) → nodes (substitute args (v.ClassParam position name)) ≡ nodes (slice_index_or args position v.Any)
+  least_of_param position name = ap nodes (put_param position name)
+
+  pub least_of_vector : (type : HackType) → nodes (substitute args (v.Vector type)) ≡ 1 + nodes (substitute args type)
+  least_of_vector type = ap nodes (put_vector type) ∙ ap nodes (sym (v.rolls-Vector (put type))) ∙ fold-roll-HackType ℕ node_count (HackType-F.Vector (put type))
+
+  pub least_of_keyset : (type : HackType) → nodes (substitute args (v.Keyset type)) ≡ 1 + nodes (substitute args type)
+  least_of_keyset type = ap nodes (put_keyset type) ∙ ap nodes (sym (v.rolls-Keyset (put type))) ∙ fold-roll-HackType ℕ node_count (HackType-F.Keyset (put type))
+
+  pub least_of_dict : (key value : HackType) → nodes (substitute args (v.Dict key value)) ≡ 1 + nodes (substitute args key) + nodes (substitute args value)
+  least_of_dict key value = ap nodes (put_dict key value) ∙ ap nodes (sym (v.rolls-Dict (put key) (put value))) ∙ fold-roll-HackType ℕ node_count (HackType-F.Dict (put key) (put value))
+
+  pub least_of_option : (type : HackType) → nodes (substitute args type) ≤ nodes (substitute args (v.Option type))
+  least_of_option type = let e = ap nodes (put_option type) in let le = option_has_nodes (put type) in omega (arith, e, le)
+
+  pub least_of_class : (name : ℕ) (types : List HackType) → nodes (substitute args (v.Class name types)) ≡ 1 + sum_by (λ ty. nodes (substitute args ty)) types
+  least_of_class name types =
+      ap nodes (put_class name types) ∙ nodes_of_class name (map put types)
+      ∙ ap (λ n. 1 + n) (sym (sum-map nodes (map put types)) ∙ ap sum (map-map nodes put types) ∙ sum-map (λ ty. nodes (put ty)) types)
+
+  pub least_of_shape : (fields : List (Field HackType)) (rest : Bool) → nodes (substitute args (v.Shape fields rest)) ≡ 1 + sum_by (λ field. nodes (substitute args field.ty)) fields
+  least_of_shape fields rest =
+      let of_field : Field HackType → ℕ = λ field. nodes field.ty in
+      ap nodes (put_shape fields rest) ∙ nodes_of_shape (map (on_type put) fields) rest
+      ∙ ap (λ n. 1 + n) (sym (sum-map of_field (map (on_type put) fields)) ∙ ap sum (map-map of_field (on_type put) fields) ∙ sum-map (λ field. nodes (put field.ty)) fields)
+
+  pub more_of_all : (types : List HackType) (i : ℕ) (d : HackType) → i < length types
+      → sum_by (λ ty. nodes (substitute args ty)) (take i types) + nodes (substitute args (get_or types i d)) ≤ sum_by (λ ty. nodes (substitute args ty)) types
+  more_of_all = sum_by_more_le (λ ty. nodes (put ty))
+
+  pub more_of_fields : (fields : List (Field HackType)) (i : ℕ) (d : Field HackType) → i < length fields
+      → sum_by (λ field. nodes (substitute args field.ty)) (take i fields) + nodes (substitute args (get_or fields i d).ty) ≤ sum_by (λ field. nodes (substitute args field.ty)) fields
+  more_of_fields = sum_by_more_le (λ field. nodes (put field.ty))
+
+  -- putting types into fields leaves their keys
+  keys_stay : (fields : List (Field HackType)) → map (λ (field : Field HackType). field.key) (map (on_type put) fields) ≡ map (λ field. field.key) fields
+  keys_stay [] = refl
+  keys_stay (f ∷ fs) = ap (λ keys. f.key ∷ keys) (keys_stay fs)
+
+  pub put_rise : (fields : List (Field HackType)) → FieldsRise fields → FieldsRise (map (on_type (substitute args)) fields)
+  put_rise fields rise = rw (keys_stay fields) rise
