@@ -1,5 +1,5 @@
 -- The test of two types is true exactly where they are equal.
-use Rattle.std.proofs.Common.{◌≡◌, ◌&&◌, ℕ, Bool, true, false, refl, sym, ap, ◌∙◌, nat_eq, IsTrue, Decides}
+use Rattle.std.proofs.Common.{◌≡◌, ◌&&◌, Bool, true, false, refl, sym, ap, ◌∙◌}
 use Rattle.std.proofs.lemmas.Bool.{eqb-true, eq-eqb, true≢false}
 use base.Stored.{Gv, gnil, gnum, gcons}
 use Rattle.hack_types.specs.SameType.{same_code, same_type}

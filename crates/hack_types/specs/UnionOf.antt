@@ -1,6 +1,6 @@
 -- The type of a value of one of some types (docs/language.md, Types and their texts). The types are in the form that `option_of`,
 -- `union_of` and `substitute` leave: what is inside `?` is no `?`, and the members of a union are neither unions nor `?` nor `null`.
-use Rattle.std.specs.Prelude.{ℕ, ◌==◌, Bool, true, false, ◌||◌, if◌then◌else◌, nat_lt, List, [], ◌∷◌, ◌++◌, length}
+use Rattle.std.specs.Prelude.{ℕ, Bool, true, false, ◌||◌, if◌then◌else◌, nat_lt, List, [], ◌∷◌, ◌++◌, length}
 use Rattle.std.specs.List.{flat_map, fold, list_any}
 use Rattle.hack_types.specs.OptionOf.{option_of}
 use Rattle.hack_types.specs.SameType.{same_type}

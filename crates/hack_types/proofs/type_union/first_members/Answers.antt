@@ -1,4 +1,4 @@
-use Rattle.std.proofs.Common.{◌≡◌, List, Bor, Vec, ◌++◌, ◌∷◌, [], ◌<◌, ◌≤◌, length, map, take, sym, ap, ◌∙◌, arith, refl}
+use Rattle.std.proofs.Common.{◌≡◌, List, Bor, Vec, ◌++◌, ◌∷◌, [], length, map, take, sym, ap, ◌∙◌, arith}
 use Rattle.std.proofs.lemmas.List.{length-map, map_push}
 use Rattle.std.specs.List.{list_any}
 use Rattle.std.specs.Global.{Global}
