@@ -12,7 +12,8 @@ pub trait Sink {
     /// What was written to it, where the sink tells it.
     ghost written: { Self → Option (List ℕ) };
 
-    /// How often it has failed. The number never falls, and stands still at 2^64 - 1.
+    /// How often it has failed, faults included from which it recovered. The number never falls, and stands still at
+    /// 2^64 - 1.
     ghost faults: { Self → ℕ };
 
     /// Appends the whole piece.

@@ -13,7 +13,8 @@ pub trait Source {
     /// The bytes to come, where the source tells them.
     ghost left: { Self → Option (List ℕ) };
 
-    /// How often it has failed. The number never falls, and stands still at 2^64 - 1.
+    /// How often it has failed, faults included from which it recovered. The number never falls, and stands still at
+    /// 2^64 - 1.
     ghost faults: { Self → ℕ };
 
     /// Moves bytes from the front of what is left to the front of `into`, and answers how many.
