@@ -8,5 +8,5 @@ Rose before now = min (before + 1) (2 ^ 64 - 1) ≤ now
 -- a call's count of faults: it never falls, and where the call answers a fault it rose; it may rise at `Ok` too, as for a
 -- fault from which the call recovered
 pub record HasCause {T E : Type 0} (before now : ℕ) (result : Result T E) : Type 0 where
-  pub kept : before ≤ now
+  pub later : before ≤ now
   pub failed : OnErr result (Rose before now)

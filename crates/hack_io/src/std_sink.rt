@@ -26,11 +26,24 @@ impl<W: Write> StdSink<W> {
 }
 
 impl<W: Write> Sink for StdSink<W> {
+    ghost use Rattle.std.specs.Prelude.{◌≡◌, OnOk, OnErr};
+    ghost use Rattle.hack_io.specs.Causes.{HasCause};
+    ghost use Rattle.hack_io.specs.Pushes.{Pushes};
+    ghost use Rattle.hack_io.specs.Memory.{next_call};
+    ghost use Rattle.hack_io.specs.Std.{writer_of, writer_faults};
+
     ghost written = { λ sink. W.contents sink.writer };
 
     ghost faults = { λ sink. sink.faults };
 
-    fn push(&mut self, piece: &[u8]) -> Result<(), WriteFault> {
+    fn push(&mut self, piece: &[u8]) -> Result<(), WriteFault>
+        ensures faults_ok { OnOk result (writer_faults self.new ≡ writer_faults self.old) }
+        ensures faults_err { OnErr result
+            (writer_faults self.new ≡ next_call (writer_faults self.old)) }
+        ensures bytes { Pushes
+            (W.contents (writer_of self.old)) (W.contents (writer_of self.new)) result piece.now }
+        ensures cause { HasCause (writer_faults self.old) (writer_faults self.new) result }
+    {
         let mut rest = piece;
         while !rest.is_empty() {
             match self.writer.write(rest) {

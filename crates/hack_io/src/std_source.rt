@@ -26,11 +26,26 @@ impl<R: Read> StdSource<R> {
 }
 
 impl<R: Read> Source for StdSource<R> {
+    ghost use Rattle.std.specs.Prelude.{◌≡◌, OnOk, OnErr};
+    ghost use Rattle.std.specs.Io.{ReadsAtMost};
+    ghost use Rattle.std.specs.Io.KnownBytes.{ReadConsumes};
+    ghost use Rattle.hack_io.specs.Causes.{HasCause};
+    ghost use Rattle.hack_io.specs.Memory.{next_call};
+    ghost use Rattle.hack_io.specs.Std.{reader_of, reader_faults};
+
     ghost left = { λ source. R.remaining source.reader };
 
     ghost faults = { λ source. source.faults };
 
-    fn pull(&mut self, into: &mut [u8]) -> Result<usize, ReadFault> {
+    fn pull(&mut self, into: &mut [u8]) -> Result<usize, ReadFault>
+        ensures faults_ok { OnOk result (reader_faults self.new ≡ reader_faults self.old) }
+        ensures faults_err { OnErr result
+            (reader_faults self.new ≡ next_call (reader_faults self.old)) }
+        ensures bound { ReadsAtMost result into.new }
+        ensures bytes { ReadConsumes
+            (R.remaining (reader_of self.old)) (R.remaining (reader_of self.new)) result into.new }
+        ensures cause { HasCause (reader_faults self.old) (reader_faults self.new) result }
+    {
         match self.reader.read(into) {
             Ok(count) => Ok(count),
             Err(_) => {
