@@ -22,10 +22,10 @@ use Rattle.hack_parse_expr.specs.declared.lexeme.Lexeme.{Lexeme}
 use Rattle.hack_parse_expr.specs.Symbols.{File, Declared, rule}
 use Rattle.hack_parse_expr.specs.Parsers.{at_front}
 use Rattle.hack_parse_expr.proofs.Runs.{stands_once}
-use Rattle.hack_parse_decl.specs.Lexemes.{spelled, IsIdOf, IsNamed, AreLexemes, with_spelled, between}
+use Rattle.hack_parse_decl.specs.Lexemes.{AreLexemes}
 use Rattle.hack_parse_decl.specs.Files.{kind_of, unit_of, end_of, IsInput, IsTree, IsFileTree, IsFileFault}
-use Rattle.hack_parse_decl.proofs.Lexed.{AreSoFar, none_yet, next_lexeme, one_more}
-use Rattle.hack_parse_decl.proofs.FilesFollow.{IsLexed}
+use Rattle.hack_parse_decl.proofs.Lexed.{none_yet}
+use Rattle.hack_parse_decl.proofs.Named.{no_token, AreNamed, more_named}
 use Rattle.hack_parse_decl.proofs.OneTree.{tree_or_fault}
 use Rattle.check_state.proofs.BuiltinTreeKinds.{builtin_kinds, of_kinds}
 use Rattle.check_state.proofs.BuiltinTreeTokens.{builtin_cut}
@@ -39,9 +39,6 @@ both_same x y xs ys e = (cc, cc)
 -- what stands for a token that isn't there
 no_lexeme : Lexeme
 no_lexeme = record { kind = Name; at = record { line = 1; column = 1 }; first = 0; behind = 0; name = 0 }
-
-no_token : Token
-no_token = record { sort = 0; at = 0; len = 0 }
 
 -- the tokens with their names have the sorts of the tokens
 sorts_same : (names : List (List ℕ)) (bytes : List ℕ) (ts : List Token) (ls : List Lexeme) → AreLexemes names bytes ts ls → map (λ l. sort_of_kind l.kind) ls ≡ map (λ t. t.sort) ts
@@ -92,47 +89,6 @@ builtin_units names tree h =
 pub builtin_six : (names : List (List ℕ)) (tree : FileTree) → IsTree names builtin_text tree → length tree.units ≡ 6
 builtin_six names tree h = ap length h.units ∙ length-map h.declared (unit_of builtin_text) ∙ (declared_are names tree h).1
 
--- ---- names
-
--- another name goes before
-behind_first : (text name : List ℕ) (names : List (List ℕ)) (id : ℕ) → bytes_eq text name ≡ false → IsIdOf names text id → (other : ℕ) → other < suc id → slice_get (name ∷ names) other ≡ Some text → ⊥
-behind_first text name names id apart h zero l e =
-    let same : text ≡ name = cc in true≢false (sym ((bytes_eq-Decides text name).1 same) ∙ apart)
-behind_first text name names id apart h (suc other) l e = h.first other (omega arith) e
-
--- a text that is there has an id
-id_there : (text : List ℕ) (names : List (List ℕ)) → list_any (bytes_eq text) names ≡ true → (id : ℕ) × IsIdOf names text id
-id_there text [] e = absurd (true≢false (sym e))
-id_there text (name ∷ names) e = by (bytes_eq text name) refl e (id_there text names)
-  where
-    by : (t : Bool) → bytes_eq text name ≡ t → (t || list_any (bytes_eq text) names) ≡ true → (list_any (bytes_eq text) names ≡ true → (id : ℕ) × IsIdOf names text id)
-        → (id : ℕ) × IsIdOf (name ∷ names) text id
-    by true h k more = (0, record { there = ap Some (sym ((bytes_eq-Decides text name).0 h)); first = λ other l. absurd (omega arith) })
-    by false h k more =
-        let found = more k in
-        (suc found.0, record { there = found.1.there; first = behind_first text name names found.0 h found.1 })
-
--- a text that isn't there has one once it is put last
-id_last : (text : List ℕ) (names : List (List ℕ)) → list_any (bytes_eq text) names ≡ false → IsIdOf (names ++ text ∷ []) text (length names)
-id_last text [] e = record { there = refl; first = λ other l. absurd (omega arith) }
-id_last text (name ∷ names) e = by (bytes_eq text name) refl e (id_last text names)
-  where
-    by : (t : Bool) → bytes_eq text name ≡ t → (t || list_any (bytes_eq text) names) ≡ false → (list_any (bytes_eq text) names ≡ false → IsIdOf (names ++ text ∷ []) text (length names))
-        → IsIdOf (name ∷ names ++ text ∷ []) text (suc (length names))
-    by true h k more = absurd (true≢false k)
-    by false h k more =
-        let last = more k in
-        record { there = last.there; first = behind_first text name (names ++ text ∷ []) (length names) h last }
-
--- so a name has an id once it is one
-id_in : (names : List (List ℕ)) (name : Option (List ℕ)) → (id : ℕ) × IsNamed (with_spelled names name) name id
-id_in names None = (0, refl)
-id_in names (Some text) = by (list_any (bytes_eq text) names) refl
-  where
-    by : (t : Bool) → list_any (bytes_eq text) names ≡ t → (id : ℕ) × IsIdOf (if t then names else names ++ text ∷ []) text id
-    by true h = id_there text names h
-    by false h = (length names, id_last text names h)
-
 -- ---- tokens with their names
 
 -- the kind of the token at an index
@@ -142,41 +98,15 @@ kind_at [] (t ∷ ts) e index l = absurd (cc)
 kind_at (k ∷ ks) (t ∷ ts) e zero l = (k, sym (both_same t.sort (sort_of_kind k) (map (λ u. u.sort) ts) (map sort_of_kind ks) e).0)
 kind_at (k ∷ ks) (t ∷ ts) e (suc index) l = kind_at ks ts (both_same t.sort (sort_of_kind k) (map (λ u. u.sort) ts) (map sort_of_kind ks) e).1 index (omega arith)
 
--- the tokens with their names among these and more
-record AreNamed (before : List (List ℕ)) (bytes : List ℕ) (tokens : List Token) : Type 0 where
-  names : List (List ℕ)
-  lexemes : List Lexeme
-  lexed : IsLexed before names bytes tokens lexemes
-
-all_named : (before names : List (List ℕ)) (bytes : List ℕ) (tokens : List Token) (ls : List Lexeme) (index : ℕ) → AreTokens bytes tokens → AreSoFar before names bytes tokens index ls → index ≡ length tokens → AreNamed before bytes tokens
-all_named before names bytes tokens ls index cut h e =
-    let all : take index tokens ≡ tokens = take_all index tokens (omega arith) in
-    record { names = names; lexemes = ls; lexed = record { cut = cut; lexed = subst (λ ts. AreLexemes names bytes ts ls) all h.made; named = h.named } }
-
--- so many tokens more
-more_named : (before : List (List ℕ)) (bytes : List ℕ) (tokens : List Token) (ks : List TokenKind) → AreTokens bytes tokens → map (λ t. t.sort) tokens ≡ map sort_of_kind ks →
-    (n index : ℕ) (names : List (List ℕ)) (ls : List Lexeme) → n + index ≡ length tokens → AreSoFar before names bytes tokens index ls → AreNamed before bytes tokens
-more_named before bytes tokens ks cut sorts zero index names ls e h = all_named before names bytes tokens ls index cut h (omega arith)
-more_named before bytes tokens ks cut sorts (suc n) index names ls e h =
-    let t : Token = get_or tokens index no_token in
-    let there : index < length tokens = omega arith in
-    let kind = kind_at ks tokens sorts index there in
-    let name : Option (List ℕ) = spelled kind.0 (between bytes t.at (t.at + t.len)) in
-    let id = id_in names name in
-    let l : Lexeme = record { kind = kind.0; at = place_of bytes t.at; first = t.at; behind = t.at + t.len; name = id.0 } in
-    let one = next_lexeme names (with_spelled names name) bytes t l name kind.1 refl refl refl refl id.1 refl in
-    more_named before bytes tokens ks cut sorts n (index + 1) (with_spelled names name) (ls ++ l ∷ []) (omega arith)
-    (one_more before names (with_spelled names name) bytes tokens index no_token ls l there h one)
-
 -- the tokens of the builtin text with their names, whatever names are there before
-builtin_named : (before : List (List ℕ)) → AreNamed before builtin_text builtin_cut.tokens
+builtin_named : (before : List (List ℕ)) → AreNamed before before builtin_text builtin_cut.tokens
 builtin_named before =
-    more_named before builtin_text builtin_cut.tokens builtin_kinds builtin_cut.cut builtin_cut.sorts_are (length builtin_cut.tokens) 0 before [] (omega arith)
+    more_named before builtin_text builtin_cut.tokens builtin_cut.cut (kind_at builtin_kinds builtin_cut.tokens builtin_cut.sorts_are) (length builtin_cut.tokens) 0 before [] (omega arith)
     (none_yet before builtin_text builtin_cut.tokens [] refl)
 
 -- ---- the tree
 
-tree_of : (before : List (List ℕ)) → AreNamed before builtin_text builtin_cut.tokens → (names : List (List ℕ)) × (tree : FileTree) × IsFileTree before names builtin_text tree
+tree_of : (before : List (List ℕ)) → AreNamed before before builtin_text builtin_cut.tokens → (names : List (List ℕ)) × (tree : FileTree) × IsFileTree before names builtin_text tree
 tree_of before h =
     let input : IsInput h.names builtin_text h.lexemes = record { tokens = builtin_cut.tokens; cut = h.lexed.cut; lexed = h.lexed.lexed } in
     let six = input_stands h.names h.lexemes (end_of builtin_text) input in (

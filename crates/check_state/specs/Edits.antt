@@ -5,6 +5,7 @@ use Rattle.hack_base.specs.Files as model
 use Rattle.hack_base.specs.Files.{Files, Put, Remove, after, count, text}
 use Rattle.hack_base.specs.Script.{IsFileName}
 use Rattle.hack_builtin.specs.Builtin.{builtin_text}
+use Rattle.hack_parse_decl.specs.Room.{most_bytes}
 use Rattle.check_state.specs.declared.edit.Edit.{Edit}
 use Rattle.check_state.specs.declared.edit.Edit.TheVariants as edits
 use Rattle.check_state.specs.declared.edit.EditStop.{EditStop}
@@ -18,9 +19,16 @@ abbrev pub edit_of : Edit → model.Edit
 edit_of (edits.Put name bytes) = Put name.items bytes.items
 edit_of (edits.Drop name) = Remove name.items
 
--- the limits on an edit: a file name, and at most 1 MiB of text
+-- there may be so many files, the builtin text not counted, and they may have so many bytes together (docs/script.md, Limits)
+abbrev pub most_files : ℕ
+most_files = 65536
+
+abbrev pub most_text : ℕ
+most_text = 2 ^ 26
+
+-- the limits on an edit: a file name, and no more bytes than a file may have
 abbrev pub IsWithinLimits : model.Edit → Type 0
-IsWithinLimits (Put name bytes) = IsFileName name × (length bytes ≤ 2 ^ 20)
+IsWithinLimits (Put name bytes) = IsFileName name × (length bytes ≤ most_bytes)
 IsWithinLimits (Remove name) = IsFileName name
 
 -- twice the number of names that an edit can add
@@ -35,12 +43,12 @@ IsMissing files (Remove name) = get files name ≡ None
 
 -- it puts a file of a new name, and there are as many as there may be
 abbrev pub AreTooMany : Files → model.Edit → Type 0
-AreTooMany files (Put name bytes) = (get files name ≡ None) × (65536 ≤ count files)
+AreTooMany files (Put name bytes) = (get files name ≡ None) × (most_files ≤ count files)
 AreTooMany files (Remove name) = ⊥
 
 -- it puts a file, and the files have more than 64 MiB then
 abbrev pub IsTooMuch : Files → model.Edit → Type 0
-IsTooMuch files (Put name bytes) = 2 ^ 26 < text (after files (Put name bytes))
+IsTooMuch files (Put name bytes) = most_text < text (after files (Put name bytes))
 IsTooMuch files (Remove name) = ⊥
 
 -- none of these

@@ -2,21 +2,33 @@
 use Rattle.std.specs.Prelude.{◌≡◌, ◌≤◌, ◌+◌, ◌^◌, ℕ, List, [], ◌∷◌, Option, None, Some, length, is_some, if◌then◌else◌}
 use Rattle.std.specs.BTreeMap as tree
 use Rattle.std.specs.FinMap.{get, insert}
-use Rattle.hack_base.specs.Files.{Files, byte_order, count, text}
+use Rattle.hack_base.specs.Files as model
+use Rattle.hack_base.specs.Files.{Files, Put, Remove, after, byte_order, count, text}
 use Rattle.hack_builtin.specs.Builtin.{builtin_text}
 use Rattle.hack_tree.specs.declared.declaration.Unit.{Unit as UnitOf}
 use Rattle.hack_names.specs.Declarations.{Table}
 use Rattle.hack_names.specs.declared.unit.UnitHead.{UnitHead}
 use Rattle.hack_parse_decl.specs.Files.{IsTree, IsFileFault}
+use Rattle.hack_parse_decl.specs.Room.{most_bytes, HasRoom}
 use Rattle.hack_first.specs.FirstTrees.{first_units}
 use Rattle.check_state.specs.declared.file.File.{File}
 use Rattle.check_state.specs.declared.file.Parsed.{Parsed}
 use Rattle.check_state.specs.declared.file.Parsed.TheVariants.{Tree, Fault}
+use Rattle.check_state.specs.declared.edit.EditStop.{EditStop}
 use Rattle.check_state.specs.declared.state.State.{State}
+use Rattle.check_state.specs.Edits.{most_files, most_text, IsAccepted, IsRefused}
 
--- how many names it has
+-- the names that it has, and how many
+abbrev pub names_of : State → List (List ℕ)
+names_of state = state.names
+
 abbrev pub name_count : State → ℕ
-name_count state = length state.names
+name_count state = length (names_of state)
+
+-- there is room for the names that an edit adds
+abbrev pub HasRoomFor : State → model.Edit → Type 0
+HasRoomFor state (Put name bytes) = HasRoom (names_of state) bytes
+HasRoomFor state (Remove name) = Unit {0}
 
 -- ---- one file
 
@@ -27,7 +39,7 @@ IsParsed names body (Fault place code) = IsFileFault body place code
 
 -- the bytes are kept so
 pub record IsRead (names : List (List ℕ)) (body : List ℕ) (file : File) : Type 0 where
-  pub short : length body ≤ 2 ^ 20
+  pub short : length body ≤ most_bytes
   pub len : file.len ≡ length body
   pub parsed : IsParsed names body file.parsed
 
@@ -92,5 +104,23 @@ pub record Stands (state : State) (files : Files) : Type 0 where
   pub written : state.text ≡ text files
   pub others : state.others ≡ named_sum (λ file. others_in file.parsed) state.files.entries
   -- and within their limits
-  pub few : count files ≤ 65536
-  pub short : text files ≤ 2 ^ 26
+  pub few : count files ≤ most_files
+  pub short : text files ≤ most_text
+
+-- ---- edits, whatever files the state stands for
+
+-- the edit of them is accepted
+abbrev pub Accepts : State → model.Edit → Type 0
+Accepts state edit = (files : Files) → Stands state files → IsAccepted files edit
+
+-- it is refused so
+abbrev pub Refuses : State → model.Edit → EditStop → Type 0
+Refuses state edit stop = (files : Files) → Stands state files → IsRefused files edit stop
+
+-- the new state stands for them after the edit
+abbrev pub IsEdited : State → State → model.Edit → Type 0
+IsEdited old new edit = (files : Files) → Stands old files → Stands new (after files edit)
+
+-- the new state stands for them
+abbrev pub StandsStill : State → State → Type 0
+StandsStill old new = (files : Files) → Stands old files → Stands new files

@@ -2,6 +2,7 @@
 ghost use Rattle.std.specs.Prelude.{◌≡◌, ◌≤◌, ◌+◌, ◌-◌, ◌*◌, ◌^◌, None, IfOk, OnOk, length};
 ghost use Rattle.std.specs.FinMap.{get};
 ghost use Rattle.hack_parse_decl.specs.Lexemes.{Extends};
+ghost use Rattle.hack_parse_decl.specs.Room.{most_bytes, HasRoom};
 ghost use Rattle.check_state.specs.Stands.{IsRead, heads_from, others_in, with_file};
 
 use hack_first::are_first;
@@ -37,8 +38,8 @@ pub(crate) enum Parsed {
 impl File {
     /// Reads the bytes of a file, whose names are among `names` from now on.
     pub(crate) fn read(alloc: Global, names: &mut Names, bytes: &[u8]) -> Result<Self, NoMemory>
-        requires short { length bytes.now ≤ 2 ^ 20 }
-        requires room { 2 * length names.old + length bytes.now + 3 ≤ 2 ^ 31 - 2 }
+        requires short { length bytes.now ≤ most_bytes }
+        requires room { HasRoom names.old bytes.now }
         ensures file { IfOk result (λ file. IsRead names.new bytes.now file) }
         ensures kept { Extends names.old names.new }
         ensures few { 2 * length names.new ≤ 2 * length names.old + length bytes.now + 3 }

@@ -9,5 +9,5 @@ mod state;
 mod texts;
 
 pub use edit::{Edit, EditStop};
-pub use laws::builtin_text_has_a_tree;
+pub use laws::{builtin_text_has_a_tree, room_by_length};
 pub use state::State;

@@ -3,9 +3,9 @@ ghost use Rattle.std.specs.Prelude.{◌≡◌, ◌≢◌, ◌≤◌, ◌+◌, �
 ghost use Rattle.std.specs.FinMap.{get, insert, remove};
 ghost use Rattle.hack_base.specs.Files.{Files, Put, Remove, after, count, text};
 ghost use Rattle.check_state.specs.declared.edit.EditStop.TheVariants.{NoMemory as NoMemoryStop};
-ghost use Rattle.check_state.specs.Edits.{first_files, edit_of, IsWithinLimits, twice_names, IsAccepted, IsRefused};
+ghost use Rattle.check_state.specs.Edits.{first_files, most_files, most_text, edit_of, IsWithinLimits, twice_names};
 ghost use Rattle.check_state.specs.Findings.{AreFirst, IsFirstReport};
-ghost use Rattle.check_state.specs.Stands.{Stands, IsRead, name_count};
+ghost use Rattle.check_state.specs.Stands.{Stands, IsRead, HasRoomFor, Accepts, Refuses, IsEdited, StandsStill, name_count};
 
 use crate::file::File;
 use crate::{Edit, EditStop};
@@ -63,11 +63,11 @@ impl State {
     /// (docs/script.md, Commands and Limits).
     pub fn edit(&mut self, alloc: Global, edit: Edit) -> Result<(), EditStop>
         requires limits { IsWithinLimits (edit_of edit) }
-        requires room { 2 * name_count self.old + twice_names (edit_of edit) ≤ 2 ^ 31 - 2 }
-        ensures accepted { OnOk result ((files : Files) → Stands self.old files → IsAccepted files (edit_of edit)) }
-        ensures edited { OnOk result ((files : Files) → Stands self.old files → Stands self.new (after files (edit_of edit))) }
-        ensures refused { IfErr result (λ stop. (files : Files) → Stands self.old files → IsRefused files (edit_of edit) stop) }
-        ensures kept { IfErr result (λ stop. stop ≢ NoMemoryStop → (files : Files) → Stands self.old files → Stands self.new files) }
+        requires room { HasRoomFor self.old (edit_of edit) }
+        ensures accepted { OnOk result (Accepts self.old (edit_of edit)) }
+        ensures edited { OnOk result (IsEdited self.old self.new (edit_of edit)) }
+        ensures refused { IfErr result (Refuses self.old (edit_of edit)) }
+        ensures kept { IfErr result (λ stop. stop ≢ NoMemoryStop → StandsStill self.old self.new) }
         ensures names { 2 * name_count self.new ≤ 2 * name_count self.old + twice_names (edit_of edit) }
     {
         match edit {
@@ -78,14 +78,16 @@ impl State {
 
     /// Whether each file but the builtin text is a list of first units or has no tree (docs/language.md, First units).
     pub fn are_first(&self) -> bool
-        ensures { (files : Files) → Stands self.now files → MatchBool result (AreFirst files) (AreFirst files → ⊥) }
+        ensures { (files : Files) → Stands self.now files
+            → MatchBool result (AreFirst files) (AreFirst files → ⊥) }
     {
         self.others == 0
     }
 
     /// The report of the files (docs/language.md, Reports).
     pub fn report(&self, alloc: Global) -> Result<Vec<FileDiag>, NoMemory>
-        ensures { IfOk result (λ report. (files : Files) → Stands self.now files → AreFirst files → IsFirstReport files report.items) }
+        ensures { IfOk result (λ report. (files : Files) → Stands self.now files → AreFirst files
+            → IsFirstReport files report.items) }
     {
         Ok(in_report_order(self.findings(alloc)?))
     }
@@ -93,11 +95,11 @@ impl State {
     // The file of this name has these bytes from now on.
     fn put(&mut self, alloc: Global, name: Bytes, bytes: &[u8]) -> Result<(), EditStop>
         requires limits { IsWithinLimits (Put name bytes.now) }
-        requires room { 2 * name_count self.old + length bytes.now + 3 ≤ 2 ^ 31 - 2 }
-        ensures accepted { OnOk result ((files : Files) → Stands self.old files → IsAccepted files (Put name bytes.now)) }
-        ensures edited { OnOk result ((files : Files) → Stands self.old files → Stands self.new (insert files name bytes.now)) }
-        ensures refused { IfErr result (λ stop. (files : Files) → Stands self.old files → IsRefused files (Put name bytes.now) stop) }
-        ensures kept { IfErr result (λ stop. stop ≢ NoMemoryStop → (files : Files) → Stands self.old files → Stands self.new files) }
+        requires room { HasRoomFor self.old (Put name bytes.now) }
+        ensures accepted { OnOk result (Accepts self.old (Put name bytes.now)) }
+        ensures edited { OnOk result (IsEdited self.old self.new (Put name bytes.now)) }
+        ensures refused { IfErr result (Refuses self.old (Put name bytes.now)) }
+        ensures kept { IfErr result (λ stop. stop ≢ NoMemoryStop → StandsStill self.old self.new) }
         ensures names { 2 * name_count self.new ≤ 2 * name_count self.old + length bytes.now + 3 }
     {
         self.limit(&name, bytes)?;
@@ -110,10 +112,10 @@ impl State {
     // There is no file of this name from now on.
     fn remove(&mut self, name: &Bytes) -> Result<(), EditStop>
         requires limits { IsWithinLimits (Remove name.now) }
-        ensures accepted { OnOk result ((files : Files) → Stands self.old files → IsAccepted files (Remove name.now)) }
-        ensures edited { OnOk result ((files : Files) → Stands self.old files → Stands self.new (remove files name.now)) }
-        ensures refused { IfErr result (λ stop. (files : Files) → Stands self.old files → IsRefused files (Remove name.now) stop) }
-        ensures kept { IfErr result (λ stop. stop ≢ NoMemoryStop → (files : Files) → Stands self.old files → Stands self.new files) }
+        ensures accepted { OnOk result (Accepts self.old (Remove name.now)) }
+        ensures edited { OnOk result (IsEdited self.old self.new (Remove name.now)) }
+        ensures refused { IfErr result (Refuses self.old (Remove name.now)) }
+        ensures kept { IfErr result (λ stop. stop ≢ NoMemoryStop → StandsStill self.old self.new) }
         ensures names { name_count self.new ≡ name_count self.old }
     {
         if self.take(name) {
@@ -126,8 +128,8 @@ impl State {
     // Refuses bytes that are too many, or that make too many files, under this name.
     fn limit(&self, name: &Bytes, bytes: &[u8]) -> Result<(), EditStop>
         requires { IsWithinLimits (Put name.now bytes.now) }
-        ensures accepted { OnOk result ((files : Files) → Stands self.now files → IsAccepted files (Put name.now bytes.now)) }
-        ensures refused { IfErr result (λ stop. (files : Files) → Stands self.now files → IsRefused files (Put name.now bytes.now) stop) }
+        ensures accepted { OnOk result (Accepts self.now (Put name.now bytes.now)) }
+        ensures refused { IfErr result (Refuses self.now (Put name.now bytes.now)) }
     {
         let before = match self.files.get(name) {
             Some(file) => file.len,
@@ -149,8 +151,10 @@ impl State {
     // Takes out the file of this name, and answers whether it was there.
     fn take(&mut self, name: &Bytes) -> bool
         ensures gone { get self.new.table name.now ≡ None }
-        ensures there { (files : Files) → Stands self.old files → MatchBool result (get files name.now ≢ None) (get files name.now ≡ None) }
-        ensures taken { (files : Files) → Stands self.old files → name.now ≢ [] → Stands self.new (remove files name.now) }
+        ensures there { (files : Files) → Stands self.old files
+            → MatchBool result (get files name.now ≢ None) (get files name.now ≡ None) }
+        ensures taken { (files : Files) → Stands self.old files → name.now ≢ []
+            → Stands self.new (remove files name.now) }
         ensures names { self.new.names ≡ self.old.names }
     {
         self.table.remove_file(name.as_slice());
@@ -167,8 +171,11 @@ impl State {
     // Adds a file, whose name is new.
     fn add(&mut self, alloc: Global, name: Bytes, file: File) -> Result<(), NoMemory>
         requires { get self.old.table name ≡ None }
-        ensures added { OnOk result ((files : Files) (body : List ℕ) → Stands self.old files → name ≢ [] → get files name ≡ None → IsRead self.old.names body file
-            → count (insert files name body) ≤ 65536 → text (insert files name body) ≤ 2 ^ 26 → Stands self.new (insert files name body)) }
+        ensures added { OnOk result ((files : Files) (body : List ℕ)
+            → Stands self.old files → name ≢ [] → get files name ≡ None
+            → IsRead self.old.names body file
+            → count (insert files name body) ≤ most_files → text (insert files name body) ≤ most_text
+            → Stands self.new (insert files name body)) }
         ensures names { self.new.names ≡ self.old.names }
     {
         file.enter(alloc, name.as_slice(), &mut self.table)?;

@@ -100,33 +100,29 @@ tree_is before names bytes tokens lexemes tree rest h read none =
 
 -- units, and a token behind them that none reads
 pub left_over : (before names : List (List ℕ)) (bytes : List ℕ) (tokens : List Token) (lexemes : List Lexeme) (found : List UnitOf) (rest : Input) (stop : ParseStop) →
-    IsLexed before names bytes tokens lexemes → units bytes (at_front lexemes (end_of bytes)) ≡ Ok (found, rest) → 0 < length rest.left → stop ≡ refusal rest → IsFileStop bytes stop
+    IsLexed before names bytes tokens lexemes → units bytes (at_front lexemes (end_of bytes)) ≡ Ok (found, rest) → 0 < length rest.left → stop ≡ refusal rest → IsFileStop before names bytes stop
 left_over before names bytes tokens lexemes found rest NoMemory h read more e = tt
 left_over before names bytes tokens lexemes found rest (Fault place code) h read more e =
     let r = read_from bytes (declarations (at_front lexemes (end_of bytes))) found rest (sym (units_are bytes (at_front lexemes (end_of bytes))) ∙ read) in
     inr (record {
-      names = names;
       lexemes = lexemes;
       input = record { tokens = tokens; cut = h.cut; lexed = h.lexed };
+      named = h.named;
       fault = inr (record { declared = r.declared; rest = rest; stands = (files_stand lexemes (end_of bytes) r.declared rest).1 r.read; more = some_left rest.left more; refused = sym e });
     })
 
 -- the units can't be read
 pub stop_is : (before names : List (List ℕ)) (bytes : List ℕ) (tokens : List Token) (lexemes : List Lexeme) (stop : ParseStop) →
-    IsLexed before names bytes tokens lexemes → (stop ≢ NoMemory → units bytes (at_front lexemes (end_of bytes)) ≡ Err stop) → IsFileStop bytes stop
+    IsLexed before names bytes tokens lexemes → (stop ≢ NoMemory → units bytes (at_front lexemes (end_of bytes)) ≡ Err stop) → IsFileStop before names bytes stop
 stop_is before names bytes tokens lexemes NoMemory h read = tt
 stop_is before names bytes tokens lexemes (Fault place code) h read =
     let e = stopped_from bytes (declarations (at_front lexemes (end_of bytes))) (Fault place code) (sym (units_are bytes (at_front lexemes (end_of bytes))) ∙ read (λ k. absurd (cc))) in
     inr (record {
-      names = names;
       lexemes = lexemes;
       input = record { tokens = tokens; cut = h.cut; lexed = h.lexed };
+      named = h.named;
       fault = inl ((files_fail lexemes (end_of bytes) (Fault place code)).1 e);
     })
-
--- want of memory says nothing
-pub no_memory_is : (bytes : List ℕ) (stop : ParseStop) → stop ≡ NoMemory → IsFileStop bytes stop
-no_memory_is bytes stop e = subst (IsFileStop bytes) (sym e) tt
 
 -- ---- the cursor
 

@@ -73,7 +73,7 @@ one_spelled names None = omega arith
 one_spelled names (Some text) = one_or_none names text (list_any (bytes_eq text) names)
 
 -- a token whose sort has no name spells none
-spelled_length : (names : List (List ℕ)) (k : TokenKind) (text : List ℕ) (sort : ℕ) → sort_of_kind k ≡ sort → length (with_spelled names (spelled k text)) ≤ length names + names_of_sort sort
+pub spelled_length : (names : List (List ℕ)) (k : TokenKind) (text : List ℕ) (sort : ℕ) → sort_of_kind k ≡ sort → length (with_spelled names (spelled k text)) ≤ length names + names_of_sort sort
 spelled_length names k text sort e = subst (λ s. length (with_spelled names (spelled k text)) ≤ length names + names_of_sort s) e (by k)
   where
     one : (name : List ℕ) → length (with_spelled names (Some name)) ≤ length names + 1

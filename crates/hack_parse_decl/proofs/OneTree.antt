@@ -16,7 +16,7 @@ use Rattle.hack_parse_expr.specs.Parsers.{at_front}
 use Rattle.hack_parse_expr.specs.Run.{Stands, Fails}
 use Rattle.hack_parse_expr.proofs.Runs.{stands_once, fails_once, stands_or_fails}
 use Rattle.hack_parse_decl.specs.Lexemes.{spelled, IsIdOf, IsNamed, IsLexeme, AreLexemes, with_spelled, between, with_names, Extends}
-use Rattle.hack_parse_decl.specs.Files.{end_of, unit_of, IsInput, IsTree, IsFileTree, IsLeftOver, IsGrammarFault, IsFileFault}
+use Rattle.hack_parse_decl.specs.Files.{end_of, unit_of, IsInput, IsTree, IsFileTree, IsLeftOver, IsGrammarFault, IsGrammarRefused, IsFileFault, IsFileRefused}
 use Rattle.hack_parse_decl.proofs.Lexed.{lexemes_stay}
 use Rattle.hack_parse_decl.proofs.Nameless.{nameless, nameless_input, refusal_same, stands_nameless, fails_nameless}
 
@@ -59,6 +59,12 @@ inputs_nameless names others bytes ls ms h k =
 with_names-nameless : (before : List (List ℕ)) (bytes : List ℕ) (ls : List Lexeme) → with_names before bytes ls ≡ with_names before bytes (map nameless ls)
 with_names-nameless before bytes [] = refl
 with_names-nameless before bytes (l ∷ ls) = with_names-nameless (with_spelled before (spelled l.kind (between bytes l.first l.behind))) bytes ls
+
+-- so they are the same behind two inputs of one text
+added_once : (before names others : List (List ℕ)) (bytes : List ℕ) (ls ms : List Lexeme) → IsInput names bytes ls → IsInput others bytes ms →
+    names ≡ with_names before bytes ls → others ≡ with_names before bytes ms → names ≡ others
+added_once before names others bytes ls ms h k named other =
+    named ∙ with_names-nameless before bytes ls ∙ ap (with_names before bytes) (inputs_nameless names others bytes ls ms h k) ∙ sym (with_names-nameless before bytes ms) ∙ sym other
 
 -- ---- tokens with their names
 
@@ -129,9 +135,7 @@ one_tree_of names bytes tree other h k =
 pub one_tree : (before names others : List (List ℕ)) (bytes : List ℕ) (tree other : FileTree) →
     IsFileTree before names bytes tree → IsFileTree before others bytes other → (names ≡ others) × (tree ≡ other)
 one_tree before names others bytes tree other h k =
-    let named : names ≡ others =
-    h.named ∙ with_names-nameless before bytes h.lexemes ∙ ap (with_names before bytes) (inputs_nameless names others bytes h.lexemes k.lexemes h.input k.input)
-    ∙ sym (with_names-nameless before bytes k.lexemes) ∙ sym k.named in
+    let named : names ≡ others = added_once before names others bytes h.lexemes k.lexemes h.input k.input h.named k.named in
     (named, one_tree_of others bytes tree other (subst (λ ns. IsTree ns bytes tree) named (is_tree before names bytes tree h)) (is_tree before others bytes other k))
 
 -- ---- faults
@@ -206,3 +210,24 @@ one_file_fault bytes place other code second (inl h) (inr k) = absurd (no_both b
 one_file_fault bytes place other code second (inr h) (inl k) = absurd (no_both bytes h.input.tokens other second h.input.cut k)
 one_file_fault bytes place other code second (inr h) (inr k) =
     same_fault place other code second (stop_once bytes h.lexemes k.lexemes (Fault place code) (Fault other second) (inputs_nameless h.names k.names bytes h.lexemes k.lexemes h.input k.input) h.fault k.fault)
+
+-- ---- the names behind a fault
+
+-- a fault is one, whatever names there were before
+pub is_fault : (before names : List (List ℕ)) (bytes : List ℕ) (place : Place) (code : ℕ) → IsFileRefused before names bytes place code → IsFileFault bytes place code
+is_fault before names bytes place code (inl h) = inl h.0
+is_fault before names bytes place code (inr h) = inr (record { names = names; lexemes = h.lexemes; input = h.input; fault = h.fault })
+
+names_behind : (before names others : List (List ℕ)) (bytes : List ℕ) (place other : Place) (code second : ℕ) →
+    IsFileRefused before names bytes place code → IsFileRefused before others bytes other second → names ≡ others
+names_behind before names others bytes place other code second (inl h) (inl k) = h.1 ∙ sym k.1
+names_behind before names others bytes place other code second (inl h) (inr k) = absurd (no_both bytes k.input.tokens place code k.input.cut h.0)
+names_behind before names others bytes place other code second (inr h) (inl k) = absurd (no_both bytes h.input.tokens other second h.input.cut k.0)
+names_behind before names others bytes place other code second (inr h) (inr k) = added_once before names others bytes h.lexemes k.lexemes h.input k.input h.named k.named
+
+-- a file has one fault at most, and one list of names behind it
+pub one_refused : (before names others : List (List ℕ)) (bytes : List ℕ) (place other : Place) (code second : ℕ) →
+    IsFileRefused before names bytes place code → IsFileRefused before others bytes other second → (names ≡ others) × (place ≡ other) × (code ≡ second)
+one_refused before names others bytes place other code second h k =
+    let fault = one_file_fault bytes place other code second (is_fault before names bytes place code h) (is_fault before others bytes other second k) in
+    (names_behind before names others bytes place other code second h k, fault.0, fault.1)

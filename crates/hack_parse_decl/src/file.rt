@@ -3,7 +3,8 @@ ghost use Rattle.std.specs.Prelude.{◌≡◌, ◌≤◌, ◌<◌, ◌+◌, ◌-
 ghost use Rattle.hack_types.specs.declared.place.Place.{Place};
 ghost use Rattle.hack_tree.specs.declared.declaration.FileTree.{FileTree};
 ghost use Rattle.hack_parse_decl.specs.Files as files;
-ghost use Rattle.hack_parse_decl.specs.Files.{IsTree, IsFileTree, IsFileFault, IsFileStop};
+ghost use Rattle.hack_parse_decl.specs.Files.{IsTree, IsFileTree, IsFileFault, IsFileRefused, IsFileStop};
+ghost use Rattle.hack_parse_decl.specs.Room.{most_bytes, most_names, HasRoom};
 ghost use Rattle.hack_parse_decl.specs.Lexemes as lexed;
 ghost use Rattle.hack_parse_expr.specs.Rows.{begins_declaration};
 ghost use Rattle.hack_parse_expr.specs.Parsers.{Reads};
@@ -20,13 +21,13 @@ use sqlite_items::Items;
 use std::alloc::Global;
 
 /// The tree of a file, whose names are among `names` from now on (docs/language.md, Grammar). A fault is that of the file's
-/// tokens, or else that of its grammar; after it, and where memory ran out, `names` may hold more names. A text of b bytes
-/// adds at most (b + 3) / 2 names, for which there is room.
+/// tokens, which adds no name, or else that of its grammar, which adds the names of all tokens. After want of memory
+/// `names` may hold more names. A text of b bytes adds at most (b + 3) / 2 names.
 pub fn parse_file(alloc: Global, names: &mut Names, bytes: &[u8]) -> Result<FileTree, ParseStop>
-    requires short { length bytes.now ≤ 2 ^ 20 }
-    requires room { 2 * length names.old + length bytes.now + 3 ≤ 2 ^ 31 - 2 }
+    requires short { length bytes.now ≤ most_bytes }
+    requires room { HasRoom names.old bytes.now }
     ensures tree { IfOk result (λ tree. IsFileTree names.old names.new bytes.now tree) }
-    ensures fault { IfErr result (IsFileStop bytes.now) }
+    ensures fault { IfErr result (IsFileStop names.old names.new bytes.now) }
     ensures kept { lexed.Extends names.old names.new }
     ensures few { 2 * length names.new ≤ 2 * length names.old + length bytes.now + 3 }
 {
@@ -44,21 +45,45 @@ pub fn parse_file(alloc: Global, names: &mut Names, bytes: &[u8]) -> Result<File
     Ok(FileTree { units })
 }
 
-/// A file has one tree at most, with one list of names behind the same ones before it, no tree where it has a fault, and one
-/// fault at most.
+/// A file has one tree at most, no tree where it has a fault, and one fault at most. Over the same names before, the names
+/// behind its tree are settled, and so are those behind its fault.
 pub fn one_tree()
-    ensures tree { (before names others : List (List ℕ)) (bytes : List ℕ) (tree other : FileTree) → IsFileTree before names bytes tree → IsFileTree before others bytes other → (names ≡ others) × (tree ≡ other) }
-    ensures tree_or_fault { (before names : List (List ℕ)) (bytes : List ℕ) (tree : FileTree) (place : Place) (code : ℕ) → IsFileTree before names bytes tree → IsFileFault bytes place code → ⊥ }
-    ensures fault { (bytes : List ℕ) (place other : Place) (code second : ℕ) → IsFileFault bytes place code → IsFileFault bytes other second → (place ≡ other) × (code ≡ second) }
+    ensures tree { (before names others : List (List ℕ)) (bytes : List ℕ) (tree other : FileTree)
+        → IsFileTree before names bytes tree → IsFileTree before others bytes other
+        → (names ≡ others) × (tree ≡ other) }
+    ensures tree_or_fault { (before names : List (List ℕ)) (bytes : List ℕ) (tree : FileTree)
+        (place : Place) (code : ℕ)
+        → IsFileTree before names bytes tree → IsFileFault bytes place code → ⊥ }
+    ensures fault { (bytes : List ℕ) (place other : Place) (code second : ℕ)
+        → IsFileFault bytes place code → IsFileFault bytes other second
+        → (place ≡ other) × (code ≡ second) }
+    ensures refused { (before names others : List (List ℕ)) (bytes : List ℕ)
+        (place other : Place) (code second : ℕ)
+        → IsFileRefused before names bytes place code
+        → IsFileRefused before others bytes other second
+        → (names ≡ others) × (place ≡ other) × (code ≡ second) }
 {}
 
-/// A file's tree is a tree whatever names were there before it, stays one where names are added, is the only one over
-/// these names, and is none where the file has a fault.
+/// A file's tree is a tree whatever names were there before it, and so is its fault. A tree stays one where names are added,
+/// is the only one over these names, and is none where the file has a fault.
 pub fn trees_stay()
-    ensures is { (before names : List (List ℕ)) (bytes : List ℕ) (tree : FileTree) → IsFileTree before names bytes tree → IsTree names bytes tree }
-    ensures stays { (names more : List (List ℕ)) (bytes : List ℕ) (tree : FileTree) → lexed.Extends names more → IsTree names bytes tree → IsTree more bytes tree }
-    ensures one { (names : List (List ℕ)) (bytes : List ℕ) (tree other : FileTree) → IsTree names bytes tree → IsTree names bytes other → tree ≡ other }
-    ensures fault { (names : List (List ℕ)) (bytes : List ℕ) (tree : FileTree) (place : Place) (code : ℕ) → IsTree names bytes tree → IsFileFault bytes place code → ⊥ }
+    ensures is { (before names : List (List ℕ)) (bytes : List ℕ) (tree : FileTree)
+        → IsFileTree before names bytes tree → IsTree names bytes tree }
+    ensures is_fault { (before names : List (List ℕ)) (bytes : List ℕ) (place : Place) (code : ℕ)
+        → IsFileRefused before names bytes place code → IsFileFault bytes place code }
+    ensures stays { (names more : List (List ℕ)) (bytes : List ℕ) (tree : FileTree)
+        → lexed.Extends names more → IsTree names bytes tree → IsTree more bytes tree }
+    ensures one { (names : List (List ℕ)) (bytes : List ℕ) (tree other : FileTree)
+        → IsTree names bytes tree → IsTree names bytes other → tree ≡ other }
+    ensures fault { (names : List (List ℕ)) (bytes : List ℕ) (tree : FileTree)
+        (place : Place) (code : ℕ)
+        → IsTree names bytes tree → IsFileFault bytes place code → ⊥ }
+{}
+
+/// There is room for the names of a text by its length: a text of b bytes adds at most (b + 3) / 2 names.
+pub fn room_by_length()
+    ensures { (names : List (List ℕ)) (bytes : List ℕ)
+        → 2 * length names + length bytes + 3 ≤ 2 * most_names → HasRoom names bytes }
 {}
 
 #[tactic(auto, unfolding(crate::specs::Files::units, hack_parse_expr::specs::Parsers::many_of, hack_parse_expr::specs::Parsers::many_from))]

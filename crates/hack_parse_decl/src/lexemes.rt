@@ -4,6 +4,7 @@ ghost use Rattle.std.specs.List.{AllByRecursion};
 ghost use Rattle.hack_lexer.specs.Forms.{content_of};
 ghost use Rattle.hack_lexer.specs.Tokens.{AreTokens};
 ghost use Rattle.hack_parse_decl.specs.Lexemes.{AreLexemes, Extends, with_names, with_spelled, spelled as spelled_of, IsNamed, between, option_bytes};
+ghost use Rattle.hack_parse_decl.specs.Room.{most_bytes, most_names, HasRoom};
 
 use hack_lexer::{Token, TokenKind};
 use hack_parse_expr::Lexeme;
@@ -18,10 +19,10 @@ pub(crate) fn lexemes(
     bytes: &[u8],
     tokens: &[Token],
 ) -> Result<Vec<Lexeme>, NoMemory>
-    requires short { length bytes.now ≤ 2 ^ 20 }
+    requires short { length bytes.now ≤ most_bytes }
     requires cut { AreTokens bytes.now tokens.now }
     requires kinds { AllByRecursion (λ t. t.sort < 121) tokens.now }
-    requires room { 2 * length names.old + length bytes.now + 3 ≤ 2 ^ 31 - 2 }
+    requires room { HasRoom names.old bytes.now }
     ensures lexemes { IfOk result (λ lexemes. AreLexemes names.new bytes.now tokens.now lexemes.items) }
     ensures names { IfOk result (λ lexemes. names.new ≡ with_names names.old bytes.now lexemes.items) }
     ensures kept { Extends names.old names.new }
@@ -63,7 +64,7 @@ fn spelled(kind: TokenKind, text: &[u8]) -> Option<&[u8]>
 
 // The id of this name, which is a name from now on, and 0 where there is none.
 fn named(alloc: Global, names: &mut Names, text: Option<&[u8]>) -> Result<NameId, NoMemory>
-    requires room { length names.old < 2 ^ 30 - 1 }
+    requires room { length (with_spelled names.old (option_bytes text)) ≤ most_names }
     ensures id { IfOk result (λ id. IsNamed names.new (option_bytes text.entry) id) }
     ensures names { OnOk result (names.new ≡ with_spelled names.old (option_bytes text.entry)) }
     ensures err { OnErr result (names.new ≡ names.old) }

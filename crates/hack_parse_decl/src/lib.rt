@@ -7,5 +7,5 @@ mod lexemes;
 mod member;
 mod signature;
 
-pub use file::{absolute, one_tree, parse_file, trees_stay};
+pub use file::{absolute, one_tree, parse_file, room_by_length, trees_stay};
 pub use hack_parse_expr::ParseStop;

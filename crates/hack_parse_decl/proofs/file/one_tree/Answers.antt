@@ -9,3 +9,6 @@ returns-clause-tree_or_fault c = laws.tree_or_fault
 
 pub returns-clause-fault : goal.returns-clause-fault
 returns-clause-fault c = laws.one_file_fault
+
+pub returns-clause-refused : goal.returns-clause-refused
+returns-clause-refused c = laws.one_refused

@@ -23,7 +23,7 @@ pub returns-in_err-units-clause-fault : goal.returns-in_err-units-clause-fault
 returns-in_err-units-clause-fault c =
     let at = goal.at.returns-in_err-units-clause-fault c in
     let p = err_from_is_err_and c.from_residual-in_err-units.result c.from_residual-in_err-units.ensures.1 in
-    rw p.1 (subst (IsFileStop c.args.bytes.now) (sym p.2)
+    rw p.1 (subst (IsFileStop c.args.names.now c.lexemes.new.names c.args.bytes.now) (sym p.2)
     (stop_is _ _ c.args.bytes.now _ _ c.in_err-units.field-0.0 (lexed at.In_ok-lexemes) (λ other. read_there _ _ _ _ (at_first at.After-new-cursor) (c.in_err-units.ensures other))))
 
 pub returns-then-left-gt0-clause-fault : goal.returns-then-left-gt0-clause-fault

@@ -4,6 +4,9 @@ use Rattle.hack_parse_decl.proofs.file.trees_stay.Goals as goal
 pub returns-clause-is : goal.returns-clause-is
 returns-clause-is c = laws.is_tree
 
+pub returns-clause-is_fault : goal.returns-clause-is_fault
+returns-clause-is_fault c = laws.is_fault
+
 pub returns-clause-stays : goal.returns-clause-stays
 returns-clause-stays c = laws.tree_stays
 

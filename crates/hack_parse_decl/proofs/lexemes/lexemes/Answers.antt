@@ -3,6 +3,7 @@ use Rattle.std.proofs.lemmas.List.{length-take, length-drop}
 use Rattle.hack_lexer.specs.declared.token.Token.{Token}
 use Rattle.hack_lexer.proofs.InOrder.{next, place_next, start_ahead}
 use Rattle.hack_parse_decl.specs.Lexemes.{Extends, option_bytes}
+use Rattle.hack_parse_decl.proofs.Room.{room_for_next}
 use Rattle.hack_parse_decl.proofs.Lexed.{none_yet, few_so_far, one_spelled, next_lexeme, one_more, extends_more, extends_spelled}
 use Rattle.hack_parse_decl.proofs.lexemes.lexemes.Goals as goal
 
@@ -17,7 +18,13 @@ loop-token-init c = record {
 }
 
 pub named-requires : goal.named-requires
-named-requires c = record { room = omega (arith, c.requires.room, few_so_far c.args.names.now c.loop-token.names c.args.bytes.now c.args.tokens.now c.loop-token.token-index _ c.requires.cut c.loop-token.invariant.so_far) }
+named-requires c =
+    let k = c.kind.ensures in
+    let sort = rw c.unwrap-kind.ensures at k in
+    record {
+      room = room_for_next c.args.names.now c.loop-token.names c.args.bytes.now c.args.tokens.now c.loop-token.token-index _ _ (option_bytes c.spelled.result) c.requires.room c.requires.cut c.requires.kinds
+          c.loop-token-test.true c.loop-token.invariant.so_far (sym sort) c.spelled.ensures;
+    }
 
 pub returns-in_err-name-clause-few : goal.returns-in_err-name-clause-few
 returns-in_err-name-clause-few c =

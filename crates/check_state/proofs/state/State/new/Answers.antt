@@ -3,6 +3,7 @@ use Rattle.std.specs.FinMap as finite
 use Rattle.std.specs.FinMap.{get-empty}
 use Rattle.std.specs.BTreeMap as tree
 use Rattle.hack_base.specs.Files.{byte_order}
+use Rattle.hack_parse_decl.proofs.Room.{room_by_length}
 use Rattle.check_state.specs.Stands.{IsRead}
 use Rattle.check_state.proofs.Standing.{stands_first, builtin_length, fixed_length}
 use Rattle.check_state.proofs.state.State.new.Goals as goal
@@ -11,7 +12,8 @@ pub read-requires-clause-short : goal.read-requires-clause-short
 read-requires-clause-short c = omega (arith, ap length (c.as_bytes.ensures.value ∙ c.builtin_text.ensures), builtin_length)
 
 pub read-requires-clause-room : goal.read-requires-clause-room
-read-requires-clause-room c = omega (arith, ap length (c.as_bytes.ensures.value ∙ c.builtin_text.ensures), builtin_length, ap length c.new-names.ensures, fixed_length)
+read-requires-clause-room c =
+    room_by_length _ _ (omega (arith, ap length (c.as_bytes.ensures.value ∙ c.builtin_text.ensures), builtin_length, ap length c.new-names.ensures, fixed_length))
 
 pub enter-requires : goal.enter-requires
 enter-requires c = ap (λ t. finite.get t []) c.new-table.ensures ∙ get-empty byte_order []
