@@ -1,5 +1,5 @@
 -- The command that a call reads, from its head and its body.
-use Rattle.std.proofs.Common.{◌≡◌, ℕ, ◌+◌, Bool, true, false, List, [], ◌++◌, Some, sym, ap, ◌∙◌, arith, append_assoc}
+use Rattle.std.proofs.Common.{◌≡◌, ℕ, ◌+◌, ◌≤◌, Bool, true, false, List, [], ◌++◌, Some, sym, ap, ◌∙◌, arith, append_assoc}
 use Rattle.std.specs.Prelude.{Option}
 use Rattle.std.specs.Global.{Vec}
 use Rattle.script_text.specs.Heads as heads
@@ -76,10 +76,10 @@ body_waits a b len name x y p w =
     ap (next_command false a.line) (sym (append_assoc a.unused x y)) ∙ waits_in_two b.ended a.line p.0 len (a.unused ++ x) y name b.unused p.1 w
 
 pub body_stops : (faults mid_faults now : ℕ) (source mid rest : Option (List ℕ)) (a b d : Reader) (len : ℕ) (name : List ℕ) (s : ReadStop)
-    → Takes source mid a b (λ more. ReadsHead a more b (Some (heads.File name len))) → mid_faults ≡ faults
+    → Takes source mid a b (λ more. ReadsHead a more b (Some (heads.File name len))) → faults ≤ mid_faults
     → Stops mid_faults now mid rest b d (λ whole bytes line. (next_body whole len bytes ≡ Bad) × (line + 1 ≡ b.line)) (λ bytes. next_body false len bytes ≡ More) s
     → Stops faults now source rest a d (λ whole bytes line. next_command whole a.line bytes ≡ No (AtBad line)) (λ bytes. next_command false a.line bytes ≡ Later) s
-body_stops faults mid_faults now source mid rest a b d len name (stop.BadScript line) t same u =
+body_stops faults mid_faults now source mid rest a b d len name (stop.BadScript line) t grown u =
     Takes-trans source mid rest a b d (FileHead a b name len)
     (λ more. ((next_body d.ended len (b.unused ++ more) ≡ Bad) × (line + 1 ≡ b.line)) × (b.ended ≡ true → more ≡ [])) (λ more. IsBad a d.ended (a.unused ++ more) line) t
     (with_none mid rest b d (λ more. (next_body d.ended len (b.unused ++ more) ≡ Bad) × (line + 1 ≡ b.line)) u)
@@ -87,12 +87,12 @@ body_stops faults mid_faults now source mid rest a b d len name (stop.BadScript 
     let at : p.0 ≡ line = omega (arith, p.2, q.0.1) in
     ap (next_command d.ended a.line) (sym (append_assoc a.unused x y))
     ∙ bad_in_two b.ended d.ended a.line p.0 len (a.unused ++ x) y name b.unused p.1 q.1 u.stays q.0.0 ∙ ap (λ n. No (AtBad n)) at)
-body_stops faults mid_faults now source mid rest a b d len name stop.Fault t same u =
+body_stops faults mid_faults now source mid rest a b d len name stop.Fault t grown u =
     Stops-after faults mid_faults now source mid rest a b d (FileHead a b name len) (λ whole bytes line. ⊥) (IsBad a) (λ bytes. next_body false len bytes ≡ More) (Waits a) stop.Fault
-    t same u (λ x y whole line p r. absurd r) (λ x y p w. body_waits a b len name x y p w)
-body_stops faults mid_faults now source mid rest a b d len name stop.TooLong t same u =
+    t grown u (λ x y whole line p r. absurd r) (λ x y p w. body_waits a b len name x y p w)
+body_stops faults mid_faults now source mid rest a b d len name stop.TooLong t grown u =
     Stops-after faults mid_faults now source mid rest a b d (FileHead a b name len) (λ whole bytes line. ⊥) (IsBad a) (λ bytes. next_body false len bytes ≡ More) (Waits a) stop.TooLong
-    t same u (λ x y whole line p r. absurd r) (λ x y p w. body_waits a b len name x y p w)
-body_stops faults mid_faults now source mid rest a b d len name stop.NoMemory t same u =
+    t grown u (λ x y whole line p r. absurd r) (λ x y p w. body_waits a b len name x y p w)
+body_stops faults mid_faults now source mid rest a b d len name stop.NoMemory t grown u =
     Stops-after faults mid_faults now source mid rest a b d (FileHead a b name len) (λ whole bytes line. ⊥) (IsBad a) (λ bytes. next_body false len bytes ≡ More) (Waits a) stop.NoMemory
-    t same u (λ x y whole line p r. absurd r) (λ x y p w. body_waits a b len name x y p w)
+    t grown u (λ x y whole line p r. absurd r) (λ x y p w. body_waits a b len name x y p w)

@@ -1,29 +1,29 @@
 -- A run, from what was read and replied to so far to what it answers.
-use Rattle.std.proofs.Common.{◌≡◌, ◌≢◌, ◌⊎◌, inl, inr, ⊎_elim, ℕ, ◌+◌, ◌-◌, ◌*◌, ◌^◌, ◌≤◌, Bool, true, false, List, [], ◌∷◌, ◌++◌, Some, None, length, take, drop, refl, sym, ap, ◌∙◌, subst, arith, append_assoc, append-nil, length-append, take-append-drop}
+use Rattle.std.proofs.Common.{◌≡◌, ◌≢◌, ◌⊎◌, inl, inr, ⊎_elim, ℕ, ◌+◌, ◌-◌, ◌*◌, ◌^◌, ◌≤◌, Bool, true, false, List, [], ◌∷◌, ◌++◌, Some, None, length, take, drop, refl, sym, ap, ◌∙◌, subst, arith, append_assoc, length-append, take-append-drop}
 use Rattle.std.specs.Prelude.{Option, IsSome}
 use Rattle.std.specs.Io.KnownBytes.{Appends, Consumes, IsAtEnd}
 use Rattle.std.proofs.KnownBytes.{Appends-nil, Appends-trans, Consumes-nil, Consumes-trans}
 use Rattle.script_text.specs.Script as script
-use Rattle.script_text.specs.Script.{End, AtEnd, AtQuit, AtBad, One, No, Later, next_command, IsScript}
+use Rattle.script_text.specs.Script.{End, AtEnd, AtQuit, AtBad, Next, One, No, Later, next_command}
 use Rattle.script_text.specs.Reader.{Reader, Takes, Stops}
 use Rattle.script_text.specs.Replies.{reply_text}
 use Rattle.script_text.specs.declared.head.ReadStop.{ReadStop}
 use Rattle.script_text.specs.declared.head.ReadStop.TheVariants as stop
 use Rattle.script_text.specs.declared.reply.Reply.{Reply}
 use Rattle.script_text.specs.declared.stand.Stand.TheVariants.{BeforeHead}
-use Rattle.script_text.proofs.WholeScripts.{has_script}
 use Rattle.hack_serve.specs.Commands.{status_of, command_of, IsLineOf, IsGoodEnd, ReadsCommand}
 use Rattle.hack_serve.specs.Session as model
-use Rattle.hack_serve.specs.Session.{first_session, IsReplied, EndsAt, AreReplied, Replies, end_status}
-use Rattle.hack_serve.specs.Outcome.{IsAnswered, IsBrokenOff, told, most_taken, Fits, Answers}
+use Rattle.hack_serve.specs.Session.{first_session, IsReplied, EndsAt, EndsWith, AreReplied, end_status}
+use Rattle.hack_serve.specs.Outcome.{StandFirst, StandTaken, IsSettled, IsBrokenOff, most_taken, Fits, Answers}
 use Rattle.hack_serve.specs.Running.{StandsFor, HasReplied, IsShort, twice_names}
 use Rattle.hack_serve.proofs.Uses.{command_uses}
 use Rattle.hack_serve.specs.declared.command.Command.{Command}
 use Rattle.hack_serve.specs.declared.session.Session.{Session}
 use Rattle.hack_serve.specs.declared.status.Status.{Status}
 use Rattle.hack_serve.specs.declared.status.Status.TheVariants.{Done, Usage, BadScript, ReadFault, WriteFault, TooLong, NotBuilt, NoMemory}
-use Rattle.hack_serve.proofs.Chains.{Chain, end_grown, chain_grown, chain_snoc, chain_first, first_of, chain_whole, chain_script}
-use Rattle.hack_serve.proofs.Replied.{replied_snoc, replies_end, replies_stop, ended_status, is_no_memory}
+use Rattle.hack_serve.proofs.Chains.{chain_grown, chain_snoc, chain_whole}
+use Rattle.hack_serve.proofs.Replied.{replied_snoc, ended_status, is_no_memory}
+use Rattle.hack_serve.proofs.Settled.{answered}
 
 -- what was read of the source and written to the sink so far
 pub record HasRun (source left before now : Option (List ℕ)) (reader : Reader) (session : Session) : Type 0 where
@@ -34,7 +34,7 @@ pub record HasRun (source left before now : Option (List ℕ)) (reader : Reader)
   pub consumed : Consumes source left taken
   pub appended : Appends before now out
   -- the commands stand first in what was taken, and the reader stands behind them
-  pub stand : Chain reader.ended 1 taken commands reader.line reader.unused
+  pub stand : StandFirst reader.ended 1 taken commands reader.line reader.unused
   pub end : reader.ended ≡ true → IsAtEnd left
   pub count : reader.taken ≡ length taken
   pub replied : AreReplied first_session commands out s
@@ -51,7 +51,11 @@ pub record HasNext (source left before now : Option (List ℕ)) (reader : Reader
   pub appended : Appends before now out
   pub noted : IsLineOf command line
   pub few : length taken ≤ 2147483647
-  pub stand : Chain reader.ended 1 taken (commands ++ (line, command_of command) ∷ []) reader.line reader.unused
+  -- the commands stand first in what was taken, and then it stands
+  pub at : ℕ
+  pub rest : List ℕ
+  pub stand : StandFirst reader.ended 1 taken commands at rest
+  pub next : next_command reader.ended at rest ≡ One (command_of command) line reader.line reader.unused
   pub end : reader.ended ≡ true → IsAtEnd left
   pub count : reader.taken ≡ length taken
   pub replied : AreReplied first_session commands out s
@@ -79,7 +83,10 @@ run_start source before reader session new stands = record {
 
 -- nothing was read, and memory ran out
 pub start_stopped : (source before : Option (List ℕ)) → Answers NoMemory source source before before
-start_stopped source before = ([], [], Consumes-nil source, Appends-nil before, omega arith, ([], first_session, (false, (λ e. absurd cc), tt), (refl, refl)))
+start_stopped source before = ([], [], Consumes-nil source, Appends-nil before, omega arith, ([], first_session, nothing, (refl, refl)))
+  where
+    nothing : StandTaken [] source []
+    nothing = record { whole = false; only_at_end = λ e. absurd cc; line = 1; rest = []; stand = (refl, refl) }
 
 -- ---- a call of the reader
 
@@ -100,7 +107,7 @@ few_taken a b taken more p q h = omega (arith, p, q, h, length-append taken more
 
 -- the commands so far, in what was taken with what came
 grown : (source mid left before now : Option (List ℕ)) (r q : Reader) (own : Session) (P : List ℕ → Type 0) (run : HasRun source mid before now r own) (t : Takes mid left r q P)
-    → Chain q.ended 1 (run.taken ++ t.more) run.commands r.line (r.unused ++ t.more)
+    → StandFirst q.ended 1 (run.taken ++ t.more) run.commands r.line (r.unused ++ t.more)
 grown source mid left before now r q own P run t = chain_grown r.ended q.ended 1 r.line run.taken t.more r.unused run.commands t.none t.stays run.stand
 
 pub read_one : (source mid left before now : Option (List ℕ)) (r q : Reader) (own : Session) (command : Command) → HasRun source mid before now r own
@@ -115,40 +122,25 @@ read_one source mid left before now r q own command run t most = record {
   appended = run.appended;
   noted = t.holds.1;
   few = few_taken r.taken q.taken run.taken t.more t.count run.count most;
-  stand = chain_snoc q.ended 1 r.line q.line (run.taken ++ t.more) (r.unused ++ t.more) q.unused run.commands (t.holds.0, command_of command)
-      (grown source mid left before now r q own (λ more. ReadsCommand r more q (Some command)) run t) t.holds.2;
+  at = r.line;
+  rest = r.unused ++ t.more;
+  stand = grown source mid left before now r q own (λ more. ReadsCommand r more q (Some command)) run t;
+  next = t.holds.2;
   end = end_later mid left r q (λ more. ReadsCommand r more q (Some command)) t run.end;
   count = count_later r.taken q.taken (length run.taken) (length t.more) t.count run.count ∙ sym (length-append run.taken t.more);
   replied = run.replied;
   stands = run.stands;
 }
 
--- ---- the whole script
-
--- nothing more comes where the source has ended
-told_none : (left : Option (List ℕ)) → IsAtEnd left → told left ≡ []
-told_none None e = refl
-told_none (Some xs) e = e
-
--- the script ends behind these commands
-ended : (left : Option (List ℕ)) (whole : Bool) (at : ℕ) (taken rest out : List ℕ) (cs : List (ℕ × script.Command)) (s : model.Session) (end : End) → (whole ≡ true → IsAtEnd left)
-    → Chain whole 1 taken cs at rest → next_command whole at rest ≡ No end → AreReplied first_session cs out s → IsAnswered (taken ++ told left) out (end_status end)
-ended left whole at taken rest out cs s end at_end chain next replied =
-    let none : whole ≡ true → told left ≡ [] = λ e. told_none left (at_end e) in
-    let all = chain_grown whole true 1 at taken (told left) rest cs none (λ _. refl) chain in
-    let last = end_grown whole true at rest (told left) end none (λ _. refl) next in
-    let is : IsScript 1 (taken ++ told left) (cs ++ []) end = chain_script 1 at (taken ++ told left) (rest ++ told left) cs [] end all last in
-    (cs, end, subst (λ l. IsScript 1 (taken ++ told left) l end) (append-nil cs) is, replies_end first_session s cs out end replied)
-
--- the run ended at a command, behind these
-stopped_at : (left : Option (List ℕ)) (whole : Bool) (at : ℕ) (taken rest out : List ℕ) (cs : List (ℕ × script.Command)) (c : ℕ × script.Command) (s : model.Session) (status : Status)
-    → (whole ≡ true → IsAtEnd left) → Chain whole 1 taken (cs ++ c ∷ []) at rest → AreReplied first_session cs out s → EndsAt s c.0 c.1 status → IsAnswered (taken ++ told left) out status
-stopped_at left whole at taken rest out cs c s status at_end chain replied ends =
-    let none : whole ≡ true → told left ≡ [] = λ e. told_none left (at_end e) in
-    let all = chain_grown whole true 1 at taken (told left) rest (cs ++ c ∷ []) none (λ _. refl) chain in
-    let later = has_script at (rest ++ told left) in
-    let is : IsScript 1 (taken ++ told left) ((cs ++ c ∷ []) ++ later.0) later.1 = chain_script 1 at (taken ++ told left) (rest ++ told left) (cs ++ c ∷ []) later.0 later.1 all later.2 in
-    (cs ++ c ∷ later.0, later.1, subst (λ l. IsScript 1 (taken ++ told left) l later.1) (append_assoc cs (c ∷ []) later.0) is, replies_stop first_session s cs later.0 c out later.1 status replied ends)
+abbrev first_taken : (source mid left before now : Option (List ℕ)) (r q : Reader) (own : Session) (P : List ℕ → Type 0) (run : HasRun source mid before now r own) (t : Takes mid left r q P)
+    → StandTaken (run.taken ++ t.more) left run.commands
+first_taken source mid left before now r q own P run t = record {
+  whole = q.ended;
+  only_at_end = end_later mid left r q P t run.end;
+  line = r.line;
+  rest = r.unused ++ t.more;
+  stand = grown source mid left before now r q own P run t;
+}
 
 -- ---- how a run ends
 
@@ -158,25 +150,37 @@ good_status AtEnd good = refl
 good_status AtQuit good = refl
 good_status (AtBad line) good = absurd good
 
+-- what was taken is enough to say how the run ends, where what stands next in it does
+by_next : (source mid left before now : Option (List ℕ)) (r q : Reader) (own : Session) (P : List ℕ → Type 0) (next : Next) (status : Status)
+    (run : HasRun source mid before now r own) (t : Takes mid left r q P) → next_command q.ended r.line (r.unused ++ t.more) ≡ next → EndsWith run.s next status
+    → IsSettled (run.taken ++ t.more) left run.out status
+by_next source mid left before now r q own P next status run t is ends = (
+  run.commands,
+  run.s,
+  first_taken source mid left before now r q own P run t,
+  run.replied,
+  subst (λ n. EndsWith run.s n status) (sym is) ends,
+)
+
 pub run_done : (source mid left before now : Option (List ℕ)) (r q : Reader) (own : Session) → HasRun source mid before now r own
     → Takes mid left r q (λ more. ReadsCommand r more q None) → q.taken ≤ 2147483647 → Answers Done source left before now
 run_done source mid left before now r q own run t most =
     let all = run.taken ++ t.more in
-    let answered = ended left q.ended r.line all (r.unused ++ t.more) run.out run.commands run.s t.holds.0 (end_later mid left r q (λ more. ReadsCommand r more q None) t run.end)
-    (grown source mid left before now r q own (λ more. ReadsCommand r more q None) run t) t.holds.2 run.replied in (
+    let settled : IsSettled all left run.out Done =
+    by_next source mid left before now r q own (λ more. ReadsCommand r more q None) (No t.holds.0) Done run t t.holds.2 (sym (good_status t.holds.0 t.holds.1)) in (
       all,
       run.out,
       Consumes-trans source mid left run.taken t.more run.consumed t.consumed,
       run.appended,
       few_taken r.taken q.taken run.taken t.more t.count run.count most,
-      subst (IsAnswered (all ++ told left) run.out) (good_status t.holds.0 t.holds.1) answered,
+      (settled, answered left all run.out Done settled),
     )
 
 -- where more bytes have to come, and the source had not ended, the commands so far stand whole
 waiting : (source mid before now : Option (List ℕ)) (r : Reader) (own : Session) (more : List ℕ) (run : HasRun source mid before now r own) → r.ended ≡ false
     → next_command false r.line (r.unused ++ more) ≡ Later → IsBrokenOff (run.taken ++ more) run.out
 waiting source mid before now r own more run open_ waits =
-    let here : Chain false 1 run.taken run.commands r.line r.unused = subst (λ w. Chain w 1 run.taken run.commands r.line r.unused) open_ run.stand in
+    let here : StandFirst false 1 run.taken run.commands r.line r.unused = subst (λ w. StandFirst w 1 run.taken run.commands r.line r.unused) open_ run.stand in
     let all = chain_grown false false 1 r.line run.taken more r.unused run.commands (λ e. absurd cc) (λ e. e) here in
     (run.commands, run.s, chain_whole 1 r.line (run.taken ++ more) (r.unused ++ more) run.commands all waits, run.replied)
 
@@ -185,14 +189,15 @@ pub run_stopped : (faults after : ℕ) (source mid left before now : Option (Lis
     → Stops faults after mid left r q (λ whole bytes line. next_command whole r.line bytes ≡ No (AtBad line)) (λ bytes. next_command false r.line bytes ≡ Later) s
     → q.taken ≤ 2147483647 → Answers (status_of s) source left before now
 run_stopped faults after source mid left before now r q own (stop.BadScript line) run t most =
-    let P : List ℕ → Type 0 = λ more. next_command q.ended r.line (r.unused ++ more) ≡ No (AtBad line) in (
+    let P : List ℕ → Type 0 = λ more. next_command q.ended r.line (r.unused ++ more) ≡ No (AtBad line) in
+    let settled : IsSettled (run.taken ++ t.more) left run.out (BadScript line) =
+    by_next source mid left before now r q own P (No (AtBad line)) (BadScript line) run t t.holds refl in (
       run.taken ++ t.more,
       run.out,
       Consumes-trans source mid left run.taken t.more run.consumed t.consumed,
       run.appended,
       few_taken r.taken q.taken run.taken t.more t.count run.count most,
-      ended left q.ended r.line (run.taken ++ t.more) (r.unused ++ t.more) run.out run.commands run.s (AtBad line) (end_later mid left r q P t run.end)
-          (grown source mid left before now r q own P run t) t.holds run.replied,
+      (settled, answered left (run.taken ++ t.more) run.out (BadScript line) settled),
     )
 run_stopped faults after source mid left before now r q own stop.Fault run t most = (
   run.taken ++ t.1.more,
@@ -218,40 +223,34 @@ run_stopped faults after source mid left before now r q own stop.NoMemory run t 
   Consumes-trans source mid left run.taken t.more run.consumed t.consumed,
   run.appended,
   few_taken r.taken q.taken run.taken t.more t.count run.count most,
-  (
-    run.commands,
-    run.s,
-    (
-      q.ended,
-      end_later mid left r q (λ more. Unit {0}) t run.end,
-      chain_first q.ended 1 r.line (run.taken ++ t.more) (r.unused ++ t.more) run.commands (grown source mid left before now r q own (λ more. Unit {0}) run t),
-    ),
-    run.replied,
-  ),
+  (run.commands, run.s, first_taken source mid left before now r q own (λ more. Unit {0}) run t, run.replied),
 )
 
 -- ---- a command that was read
 
+-- the commands before it stand first in what was taken
+abbrev before_it : (source left before now : Option (List ℕ)) (r : Reader) (own : Session) (command : Command) (n : HasNext source left before now r own command) → StandTaken n.taken left n.commands
+before_it source left before now r own command n = record { whole = r.ended; only_at_end = n.end; line = n.at; rest = n.rest; stand = n.stand }
+
+-- and it is the next
+with_it : (source left before now : Option (List ℕ)) (r : Reader) (own : Session) (command : Command) (n : HasNext source left before now r own command)
+    → StandFirst r.ended 1 n.taken (n.commands ++ (n.line, command_of command) ∷ []) r.line r.unused
+with_it source left before now r own command n = chain_snoc r.ended 1 n.at r.line n.taken n.rest r.unused n.commands (n.line, command_of command) n.stand n.next
+
 -- memory ran out before its reply was written
 pub next_stopped : (source left before now : Option (List ℕ)) (r : Reader) (own : Session) (command : Command) → HasNext source left before now r own command → Answers NoMemory source left before now
 next_stopped source left before now r own command n =
-    let c : ℕ × script.Command = (n.line, command_of command) in (
-      n.taken,
-      n.out,
-      n.consumed,
-      n.appended,
-      n.few,
-      (n.commands, n.s, (r.ended, n.end, first_of r.ended 1 n.taken n.commands (c ∷ []) (chain_first r.ended 1 r.line n.taken r.unused (n.commands ++ c ∷ []) n.stand)), n.replied),
-    )
+    (n.taken, n.out, n.consumed, n.appended, n.few, (n.commands, n.s, before_it source left before now r own command n, n.replied))
 
 few_ended : (status : Status) (line n : ℕ) → (status ≡ BadScript line) ⊎ (status ≡ NotBuilt) → n ≤ 2147483647 → n ≤ most_taken status
 few_ended status line n (inl e) h = subst (λ x. n ≤ most_taken x) (sym e) h
 few_ended status line n (inr e) h = subst (λ x. n ≤ most_taken x) (sym e) h
 
-fits_answered : (status : Status) (line : ℕ) (taken out : List ℕ) (left : Option (List ℕ)) → (status ≡ BadScript line) ⊎ (status ≡ NotBuilt) → IsAnswered (taken ++ told left) out status
+fits_settled : (status : Status) (line : ℕ) (taken out : List ℕ) (left : Option (List ℕ)) → (status ≡ BadScript line) ⊎ (status ≡ NotBuilt) → IsSettled taken left out status
     → Fits status taken left out
-fits_answered status line taken out left (inl e) = subst (λ x. IsAnswered (taken ++ told left) out x → Fits x taken left out) (sym e) (λ h. h)
-fits_answered status line taken out left (inr e) = subst (λ x. IsAnswered (taken ++ told left) out x → Fits x taken left out) (sym e) (λ h. h)
+fits_settled status line taken out left (inl e) =
+    subst (λ x. IsSettled taken left out x → Fits x taken left out) (sym e) (λ h. (h, answered left taken out (BadScript line) h))
+fits_settled status line taken out left (inr e) = subst (λ x. IsSettled taken left out x → Fits x taken left out) (sym e) (λ h. (h, answered left taken out NotBuilt h))
 
 -- the run ended at it
 pub next_ended : (source left before now : Option (List ℕ)) (r : Reader) (own : Session) (command : Command) (status : Status) → HasNext source left before now r own command
@@ -260,15 +259,15 @@ next_ended source left before now r own command status n ends =
     ⊎_elim
     (λ memory. subst (λ x. Answers x source left before now) (sym memory) (next_stopped source left before now r own command n))
     (λ other.
-    let c : ℕ × script.Command = (n.line, command_of command) in
-    let here : EndsAt n.s n.line (command_of command) status = ends other n.s n.line n.stands n.noted in (
+    let here : EndsAt n.s n.line (command_of command) status = ends other n.s n.line n.stands n.noted in
+    let settled : IsSettled n.taken left n.out status =
+    (n.commands, n.s, before_it source left before now r own command n, n.replied, subst (λ x. EndsWith n.s x status) (sym n.next) here) in (
       n.taken,
       n.out,
       n.consumed,
       n.appended,
       few_ended status n.line (length n.taken) (ended_status n.s n.line (command_of command) status here) n.few,
-      fits_answered status n.line n.taken n.out left (ended_status n.s n.line (command_of command) status here)
-          (stopped_at left r.ended r.line n.taken r.unused n.out n.commands c n.s status n.end n.stand n.replied here),
+      fits_settled status n.line n.taken n.out left (ended_status n.s n.line (command_of command) status here) settled,
     ))
     (is_no_memory status)
 
@@ -285,7 +284,7 @@ next_replied source left before now last r own new command reply n replied wrote
       s = h.next;
       consumed = n.consumed;
       appended = Appends-trans before now last n.out (reply_text reply) n.appended wrote;
-      stand = n.stand;
+      stand = with_it source left before now r own command n;
       end = n.end;
       count = n.count;
       replied = replied_snoc first_session n.s h.next n.commands c n.out (reply_text reply) n.replied h.replied;
@@ -313,7 +312,7 @@ next_cut source left before now last r own new command reply k n replied wrote =
         n.out,
         part,
         rest,
-        (r.ended, n.end, chain_first r.ended 1 r.line n.taken r.unused (n.commands ++ c ∷ []) n.stand),
+        record { whole = r.ended; only_at_end = n.end; line = r.line; rest = r.unused; stand = with_it source left before now r own command n },
         n.replied,
         subst (λ text. IsReplied n.s (command_of command) text h.next) (sym (take-append-drop k (reply_text reply))) h.replied,
         refl,

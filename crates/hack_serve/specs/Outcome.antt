@@ -3,22 +3,33 @@ use Rattle.std.specs.Prelude.{◌≡◌, ◌≤◌, ◌-◌, ◌^◌, ℕ, Bool,
 use Rattle.std.specs.Io.KnownBytes.{Appends, Consumes, IsAtEnd}
 use Rattle.script_text.specs.Script.{Command, End, One, next_command, IsScript}
 use Rattle.script_text.specs.Whole.{StandWhole}
-use Rattle.hack_serve.specs.Session.{Session, first_session, IsReplied, AreReplied, Replies}
+use Rattle.hack_serve.specs.Session.{Session, first_session, IsReplied, AreReplied, EndsWith, Replies}
 use Rattle.hack_serve.specs.declared.status.Status.{Status}
 use Rattle.hack_serve.specs.declared.status.Status.TheVariants.{Done, Usage, BadScript, ReadFault, WriteFault, TooLong, NotBuilt, NoMemory}
 
+-- what a source has left, where it tells that
+abbrev pub told : Option (List ℕ) → List ℕ
+told None = []
+told (Some left) = left
+
 -- ---- commands that stand first
 
--- of these bytes, whose first is in this line, these commands stand first; `whole` says that nothing comes behind the bytes, and
--- only then the last line or body may lack its LF
-abbrev pub StandFirst : Bool → ℕ → List ℕ → List (ℕ × Command) → Type 0
-StandFirst whole line bytes [] = Unit {0}
-StandFirst whole line bytes (command ∷ commands) = (after : ℕ) × (rest : List ℕ)
-    × (next_command whole line bytes ≡ One command.1 command.0 after rest) × StandFirst whole after rest commands
+-- of these bytes, whose first is in this line, these commands stand first, and behind them come `rest`, whose first is in the line
+-- `next`; `whole` says that nothing comes behind the bytes, and only then the last line or body may lack its LF
+abbrev pub StandFirst : Bool → ℕ → List ℕ → List (ℕ × Command) → ℕ → List ℕ → Type 0
+StandFirst whole line bytes [] next rest = (line ≡ next) × (bytes ≡ rest)
+StandFirst whole line bytes (command ∷ commands) next rest = (after : ℕ) × (behind : List ℕ)
+    × (next_command whole line bytes ≡ One command.1 command.0 after behind) × StandFirst whole after behind commands next rest
 
 -- these commands stand first in the bytes that were taken of a source in which this is left, where it tells that
-abbrev pub StandTaken : List ℕ → Option (List ℕ) → List (ℕ × Command) → Type 0
-StandTaken taken left commands = (whole : Bool) × (whole ≡ true → IsAtEnd left) × StandFirst whole 1 taken commands
+pub record StandTaken (taken : List ℕ) (left : Option (List ℕ)) (commands : List (ℕ × Command)) : Type 0 where
+  -- whether the bytes taken are known to be all
+  pub whole : Bool
+  pub only_at_end : whole ≡ true → IsAtEnd left
+  -- the bytes behind the commands, and the line of their first
+  pub line : ℕ
+  pub rest : List ℕ
+  pub stand : StandFirst whole 1 taken commands line rest
 
 -- ---- ends
 
@@ -26,6 +37,13 @@ StandTaken taken left commands = (whole : Bool) × (whole ≡ true → IsAtEnd l
 abbrev pub IsAnswered : List ℕ → List ℕ → Status → Type 0
 IsAnswered script out status = (commands : List (ℕ × Command)) × (end : End)
     × IsScript 1 script commands end × Replies first_session commands end out status
+
+-- the bytes taken settle that the run ends so, whatever is left: commands stand first in them, the bytes written are the replies
+-- to these, and what stands next, a command or the end of the script, ends the run
+abbrev pub IsSettled : List ℕ → Option (List ℕ) → List ℕ → Status → Type 0
+IsSettled taken left out status = (commands : List (ℕ × Command)) × (last : Session)
+    × (front : StandTaken taken left commands) × AreReplied first_session commands out last
+    × EndsWith last (next_command front.whole front.line front.rest) status
 
 -- the bytes are the replies to exactly the commands that stand whole, with their last LF, in those that were taken
 abbrev pub IsBrokenOff : List ℕ → List ℕ → Type 0
@@ -47,20 +65,17 @@ IsCutShort taken left out = (commands : List (ℕ × Command)) × (next : ℕ ×
 abbrev pub IsTooLong : List ℕ → List ℕ → Type 0
 IsTooLong taken out = (script : List ℕ) × (byte : ℕ) × (taken ≡ script ++ byte ∷ []) × (length script ≡ 2 ^ 31 - 1) × IsBrokenOff script out
 
--- what a source has left, where it tells that
-abbrev pub told : Option (List ℕ) → List ℕ
-told None = []
-told (Some left) = left
+-- ---- statuses
 
 -- what was taken of a source in which this is left, and what was written, fit the status
 abbrev pub Fits : Status → List ℕ → Option (List ℕ) → List ℕ → Type 0
-Fits Done taken left out = IsAnswered (taken ++ told left) out Done
+Fits Done taken left out = IsSettled taken left out Done × IsAnswered (taken ++ told left) out Done
 Fits Usage taken left out = (taken ≡ []) × (out ≡ [])
-Fits (BadScript line) taken left out = IsAnswered (taken ++ told left) out (BadScript line)
+Fits (BadScript line) taken left out = IsSettled taken left out (BadScript line) × IsAnswered (taken ++ told left) out (BadScript line)
 Fits ReadFault taken left out = IsBrokenOff taken out
 Fits WriteFault taken left out = IsCutShort taken left out
 Fits TooLong taken left out = IsTooLong taken out
-Fits NotBuilt taken left out = IsAnswered (taken ++ told left) out NotBuilt
+Fits NotBuilt taken left out = IsSettled taken left out NotBuilt × IsAnswered (taken ++ told left) out NotBuilt
 Fits NoMemory taken left out = IsStopped taken left out
 
 -- at most 2^31 - 1 bytes are taken; at `TooLong` one more was
@@ -78,7 +93,3 @@ most_taken NoMemory = 2 ^ 31 - 1
 abbrev pub Answers : Status → Option (List ℕ) → Option (List ℕ) → Option (List ℕ) → Option (List ℕ) → Type 0
 Answers status source left before now = (taken out : List ℕ)
     × Consumes source left taken × Appends before now out × (length taken ≤ most_taken status) × Fits status taken left out
-
--- what was written between the two is as P says
-abbrev pub Wrote : Option (List ℕ) → Option (List ℕ) → (List ℕ → Type 0) → Type 0
-Wrote before now P = (out : List ℕ) × Appends before now out × P out

@@ -5,7 +5,7 @@ use Rattle.hack_base.specs.Files as model
 use Rattle.hack_base.specs.Files.{Files, Put, Remove, after}
 use Rattle.hack_types.specs.declared.diag.FileDiag.{FileDiag}
 use Rattle.hack_types.specs.Report.{report_text}
-use Rattle.script_text.specs.Script.{Command, File, Drop, Check, Begin, Wait, End, AtEnd, AtQuit, AtBad}
+use Rattle.script_text.specs.Script.{Command, File, Drop, Check, Begin, Wait, End, AtEnd, AtQuit, AtBad, Next, One, No, Later}
 use Rattle.script_text.specs.Replies.{edit_text, no_file_text}
 use Rattle.check_state.specs.Edits.{first_files, IsMissing, AreTooMany, IsTooMuch, IsAccepted}
 use Rattle.check_state.specs.Findings.{AreFirst, IsFirstReport}
@@ -67,6 +67,12 @@ abbrev pub end_status : End → Status
 end_status AtEnd = status.Done
 end_status AtQuit = status.Done
 end_status (AtBad line) = status.BadScript line
+
+-- what stands next in the script ends the run so: a command at which it ends, or the end of the script
+abbrev pub EndsWith : Session → Next → Status → Type 0
+EndsWith s (One command line after rest) ends = EndsAt s line command ends
+EndsWith s (No end) ends = ends ≡ end_status end
+EndsWith s Later ends = ⊥
 
 -- a script of these commands and this end has these bytes as its replies, and its run ends so
 abbrev pub Replies : Session → List (ℕ × Command) → End → List ℕ → Status → Type 0

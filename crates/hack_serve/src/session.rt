@@ -40,13 +40,18 @@ impl Session {
     /// Carries a command out, and gives its reply (docs/script.md, Replies). After an error the session isn't used again.
     pub(crate) fn reply(&mut self, alloc: Global, command: Command) -> Result<Reply, Status>
         requires short { IsShort (command_of command) }
-        requires room { 2 * name_count self.old.state + twice_names (command_of command) ≤ 2 ^ 31 - 2 }
+        requires room { 2 * name_count self.old.state + twice_names (command_of command)
+            ≤ 2 ^ 31 - 2 }
         requires edits { self.old.edits + 1 < 2 ^ 64 }
         requires checks { self.old.checks + 1 < 2 ^ 64 }
-        ensures replied { IfOk result (λ reply. (s : model.Session) → StandsFor self.old s → HasReplied self.new (command_of command) reply s) }
-        ensures ended { IfErr result (λ status. status ≢ NoMemoryStatus → (s : model.Session) (line : ℕ) → StandsFor self.old s
+        ensures replied { IfOk result (λ reply. (s : model.Session) → StandsFor self.old s
+            → HasReplied self.new (command_of command) reply s) }
+        ensures ended { IfErr result (λ status. status ≢ NoMemoryStatus
+            → (s : model.Session) (line : ℕ) → StandsFor self.old s
             → IsLineOf command line → EndsAt s line (command_of command) status) }
-        ensures names { OnOk result (2 * name_count self.new.state ≤ 2 * name_count self.old.state + twice_names (command_of command)) }
+        ensures names { OnOk result
+            (2 * name_count self.new.state
+            ≤ 2 * name_count self.old.state + twice_names (command_of command)) }
         ensures edits { OnOk result (self.new.edits ≤ self.old.edits + 1) }
         ensures checks { OnOk result (self.new.checks ≤ self.old.checks + 1) }
     {
@@ -72,9 +77,12 @@ impl Session {
         requires edits { self.old.edits + 1 < 2 ^ 64 }
         ensures replied { IfOk result (λ reply. (s : model.Session) → StandsFor self.old s
             → HasReplied self.new (script.File name.items body.items) reply s) }
-        ensures ended { IfErr result (λ status. status ≢ NoMemoryStatus → (s : model.Session) → StandsFor self.old s
+        ensures ended { IfErr result (λ status. status ≢ NoMemoryStatus
+            → (s : model.Session) → StandsFor self.old s
             → EndsAt s line (script.File name.items body.items) status) }
-        ensures names { OnOk result (2 * name_count self.new.state ≤ 2 * name_count self.old.state + length body.items + 3) }
+        ensures names { OnOk result
+            (2 * name_count self.new.state
+            ≤ 2 * name_count self.old.state + length body.items + 3) }
         ensures edits { OnOk result (self.new.edits ≤ self.old.edits + 1) }
         ensures checks { self.new.checks ≡ self.old.checks }
     {
@@ -99,7 +107,8 @@ impl Session {
         ensures replied { IfOk result (λ reply. (s : model.Session) → StandsFor self.old s
             → HasReplied self.new (script.Drop name.items) reply s) }
         ensures ended { IfErr result (λ status. status ≡ NoMemoryStatus) }
-        ensures names { OnOk result (2 * name_count self.new.state ≤ 2 * name_count self.old.state) }
+        ensures names { OnOk result
+            (2 * name_count self.new.state ≤ 2 * name_count self.old.state) }
         ensures edits { OnOk result (self.new.edits ≤ self.old.edits + 1) }
         ensures checks { self.new.checks ≡ self.old.checks }
     {
@@ -119,8 +128,10 @@ impl Session {
     /// Reports on the current files.
     fn check(&mut self, alloc: Global) -> Result<Reply, Status>
         requires { self.old.checks + 1 < 2 ^ 64 }
-        ensures replied { IfOk result (λ reply. (s : model.Session) → StandsFor self.old s → HasReplied self.new script.Check reply s) }
-        ensures ended { IfErr result (λ status. status ≢ NoMemoryStatus → (s : model.Session) (line : ℕ) → StandsFor self.old s
+        ensures replied { IfOk result (λ reply. (s : model.Session) → StandsFor self.old s
+            → HasReplied self.new script.Check reply s) }
+        ensures ended { IfErr result (λ status. status ≢ NoMemoryStatus
+            → (s : model.Session) (line : ℕ) → StandsFor self.old s
             → EndsAt s line script.Check status) }
         ensures state { self.new.state ≡ self.old.state }
         ensures edits { self.new.edits ≡ self.old.edits }

@@ -1,4 +1,4 @@
-use Rattle.std.proofs.Common.{length, take, refl, ap, ◌∙◌, subst, arith}
+use Rattle.std.proofs.Common.{length, take, ap, ◌∙◌, subst, arith}
 use Rattle.std.specs.Io.KnownBytes.{Appends}
 use Rattle.std.proofs.lemmas.Result.{err_from_is_err_and}
 use Rattle.script_text.specs.Reader.{Reader}
@@ -24,8 +24,8 @@ loop-session-init g c =
     record {
       run = run_start (g.S.Source.left c.args.source.now) (g.K.Sink.written c.args.sink.now) c.in_ok-reader.reader c.in_ok-session.session new stands;
       stand = ap (λ (r : Reader). r.stand) new;
-      reads = refl;
-      writes = refl;
+      reads = omega arith;
+      writes = omega arith;
       most = omega (arith, taken);
       names = omega (arith, taken, unused, c.in_ok-session.ensures.names);
       edits = omega (arith, taken, unused, stands.edits);
@@ -179,8 +179,8 @@ loop-session-preserved-in_ok-push g c =
     record {
       run = next_replied source left before written last now.reader was.session c.reply.new.self command c.in_ok-reply.reply next done.replied wrote;
       stand = stand_at c.in_ok-command.field-0 command now.reader c.in-Some.is c.in_ok-command.ensures.stand;
-      reads = c.in_ok-command.ensures.faults ∙ was.invariant.reads;
-      writes = c.in_ok-push.ensures.cause.kept ∙ was.invariant.writes;
+      reads = omega (arith, c.in_ok-command.ensures.faults, was.invariant.reads);
+      writes = omega (arith, c.in_ok-push.ensures.cause.kept, was.invariant.writes);
       most = c.in_ok-command.ensures.most;
       names = omega (arith, u.names, was.invariant.names, done.names);
       edits = omega (arith, u.some, was.invariant.edits, done.edits);
@@ -214,8 +214,8 @@ loop-session-preserved g c =
     record {
       run = next_replied source left before written last now.reader was.session c.reply.new.self command c.in_ok-reply.reply next done.replied wrote;
       stand = stand_at c.in_ok-command.field-0 command now.reader c.in-Some.is c.in_ok-command.ensures.stand;
-      reads = c.in_ok-command.ensures.faults ∙ was.invariant.reads;
-      writes = c.in_ok-push.ensures.cause.kept ∙ was.invariant.writes;
+      reads = omega (arith, c.in_ok-command.ensures.faults, was.invariant.reads);
+      writes = omega (arith, c.in_ok-push.ensures.cause.kept, was.invariant.writes);
       most = c.in_ok-command.ensures.most;
       names = omega (arith, u.names, was.invariant.names, done.names);
       edits = omega (arith, u.some, was.invariant.edits, done.edits);

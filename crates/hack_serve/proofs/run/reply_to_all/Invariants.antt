@@ -8,8 +8,8 @@ abbrev pub invariant-loop-session : goal.invariant-loop-session
 invariant-loop-session g l = record {
   run : HasRun (g.S.Source.left l.fn.source) (g.S.Source.left l.source) (g.K.Sink.written l.fn.sink) (g.K.Sink.written l.sink) l.reader l.session;
   stand : l.reader.stand ≡ BeforeHead;
-  reads : g.S.Source.faults l.source ≡ g.S.Source.faults l.fn.source;
-  writes : g.K.Sink.faults l.sink ≡ g.K.Sink.faults l.fn.sink;
+  reads : g.S.Source.faults l.fn.source ≤ g.S.Source.faults l.source;
+  writes : g.K.Sink.faults l.fn.sink ≤ g.K.Sink.faults l.sink;
   most : l.reader.taken ≤ 2147483647;
   names : 1048585 * (2 * name_count l.session.state) + 1048579 * length l.reader.unused ≤ 1048579 * l.reader.taken + 524292500;
   edits : l.session.edits + length l.reader.unused ≤ l.reader.taken;
