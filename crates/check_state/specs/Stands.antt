@@ -109,18 +109,18 @@ pub record Stands (state : State) (files : Files) : Type 0 where
 
 -- ---- edits, whatever files the state stands for
 
--- the edit of them is accepted
+-- whatever files the state stands for, the edit of these is accepted
 abbrev pub Accepts : State → model.Edit → Type 0
 Accepts state edit = (files : Files) → Stands state files → IsAccepted files edit
 
--- it is refused so
+-- whatever files the state stands for, the edit of these is refused so
 abbrev pub Refuses : State → model.Edit → EditStop → Type 0
 Refuses state edit stop = (files : Files) → Stands state files → IsRefused files edit stop
 
--- the new state stands for them after the edit
-abbrev pub IsEdited : State → State → model.Edit → Type 0
-IsEdited old new edit = (files : Files) → Stands old files → Stands new (after files edit)
+-- whatever files the old state stands for, the new one stands for these after the edit
+abbrev pub StandsAfter : State → State → model.Edit → Type 0
+StandsAfter old new edit = (files : Files) → Stands old files → Stands new (after files edit)
 
--- the new state stands for them
+-- whatever files the old state stands for, the new one stands for these too
 abbrev pub StandsStill : State → State → Type 0
 StandsStill old new = (files : Files) → Stands old files → Stands new files

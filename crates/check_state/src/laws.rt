@@ -25,8 +25,9 @@ pub fn builtin_text_has_a_tree()
         → length tree.units ≡ 6 }
 {}
 
-/// There is room for the names of an edit by the length of its text: a text of b bytes adds at most (b + 3) / 2 names.
+/// There is room for the names of an edit by the length of its text: a text of b bytes adds at most (b + 3) / 2 names,
+/// rounded down.
 pub fn room_by_length()
     ensures { (state : State) (edit : model.Edit)
-        → 2 * name_count state + twice_names edit ≤ 2 * most_names → HasRoomFor state edit }
+        → 2 * name_count state + twice_names edit ≤ 2 * most_names + 1 → HasRoomFor state edit }
 {}

@@ -5,7 +5,7 @@ ghost use Rattle.hack_base.specs.Files.{Files, Put, Remove, after, count, text};
 ghost use Rattle.check_state.specs.declared.edit.EditStop.TheVariants.{NoMemory as NoMemoryStop};
 ghost use Rattle.check_state.specs.Edits.{first_files, most_files, most_text, edit_of, IsWithinLimits, twice_names};
 ghost use Rattle.check_state.specs.Findings.{AreFirst, IsFirstReport};
-ghost use Rattle.check_state.specs.Stands.{Stands, IsRead, HasRoomFor, Accepts, Refuses, IsEdited, StandsStill, name_count};
+ghost use Rattle.check_state.specs.Stands.{Stands, IsRead, HasRoomFor, Accepts, Refuses, StandsAfter, StandsStill, name_count};
 
 use crate::file::File;
 use crate::{Edit, EditStop};
@@ -65,7 +65,7 @@ impl State {
         requires limits { IsWithinLimits (edit_of edit) }
         requires room { HasRoomFor self.old (edit_of edit) }
         ensures accepted { OnOk result (Accepts self.old (edit_of edit)) }
-        ensures edited { OnOk result (IsEdited self.old self.new (edit_of edit)) }
+        ensures edited { OnOk result (StandsAfter self.old self.new (edit_of edit)) }
         ensures refused { IfErr result (Refuses self.old (edit_of edit)) }
         ensures kept { IfErr result (λ stop. stop ≢ NoMemoryStop → StandsStill self.old self.new) }
         ensures names { 2 * name_count self.new ≤ 2 * name_count self.old + twice_names (edit_of edit) }
@@ -97,7 +97,7 @@ impl State {
         requires limits { IsWithinLimits (Put name bytes.now) }
         requires room { HasRoomFor self.old (Put name bytes.now) }
         ensures accepted { OnOk result (Accepts self.old (Put name bytes.now)) }
-        ensures edited { OnOk result (IsEdited self.old self.new (Put name bytes.now)) }
+        ensures edited { OnOk result (StandsAfter self.old self.new (Put name bytes.now)) }
         ensures refused { IfErr result (Refuses self.old (Put name bytes.now)) }
         ensures kept { IfErr result (λ stop. stop ≢ NoMemoryStop → StandsStill self.old self.new) }
         ensures names { 2 * name_count self.new ≤ 2 * name_count self.old + length bytes.now + 3 }
@@ -113,7 +113,7 @@ impl State {
     fn remove(&mut self, name: &Bytes) -> Result<(), EditStop>
         requires limits { IsWithinLimits (Remove name.now) }
         ensures accepted { OnOk result (Accepts self.old (Remove name.now)) }
-        ensures edited { OnOk result (IsEdited self.old self.new (Remove name.now)) }
+        ensures edited { OnOk result (StandsAfter self.old self.new (Remove name.now)) }
         ensures refused { IfErr result (Refuses self.old (Remove name.now)) }
         ensures kept { IfErr result (λ stop. stop ≢ NoMemoryStop → StandsStill self.old self.new) }
         ensures names { name_count self.new ≡ name_count self.old }

@@ -29,7 +29,7 @@ few_added names all bytes (t ∷ ts) (l ∷ ls) h =
 few_added names all bytes [] (l ∷ ls) h = absurd h
 few_added names all bytes (t ∷ ts) [] h = absurd h
 
-pub room_by_length : (names : List (List ℕ)) (bytes : List ℕ) → 2 * length names + length bytes + 3 ≤ 2 * most_names → HasRoom names bytes
+pub room_by_length : (names : List (List ℕ)) (bytes : List ℕ) → 2 * length names + length bytes + 3 ≤ 2 * most_names + 1 → HasRoom names bytes
 unfolding HasRoom
 room_by_length names bytes short lexemes input =
     omega (arith, short, few_names bytes input.tokens input.cut, few_added names (with_names names bytes lexemes) bytes input.tokens lexemes input.lexed)

@@ -117,9 +117,10 @@ pub record IsLeftOver (i : Input) (stop : ParseStop) : Type 0 where
   pub more : rest.left ≢ []
   pub refused : refusal rest ≡ stop
 
--- the grammar is stuck or too deep at this place, or declarations end before it
-abbrev pub IsStuck : List Lexeme → Place → Place → ℕ → Type 0
-IsStuck lexemes end place code =
+-- these tokens, behind which the text ends at the first place, have this fault of the grammar at the second: they can't be read
+-- as declarations, or a token is left behind the last declaration
+abbrev pub HasGrammarFault : List Lexeme → Place → Place → ℕ → Type 0
+HasGrammarFault lexemes end place code =
     Fails (rule File) (at_front lexemes end) (Fault place code) ⊎ IsLeftOver (at_front lexemes end) (Fault place code)
 
 -- the bytes have tokens, and this fault of the grammar
@@ -127,20 +128,21 @@ pub record IsGrammarFault (bytes : List ℕ) (place : Place) (code : ℕ) : Type
   pub names : List (List ℕ)
   pub lexemes : List Lexeme
   pub input : IsInput names bytes lexemes
-  pub fault : IsStuck lexemes (end_of bytes) place code
+  pub fault : HasGrammarFault lexemes (end_of bytes) place code
 
--- the same where to these names before it those of all tokens were added
+-- the same, and these are the names once those of all tokens were added to the names before
 pub record IsGrammarRefused (before names : List (List ℕ)) (bytes : List ℕ) (place : Place) (code : ℕ) : Type 0 where
   pub lexemes : List Lexeme
   pub input : IsInput names bytes lexemes
   pub named : names ≡ with_names before bytes lexemes
-  pub fault : IsStuck lexemes (end_of bytes) place code
+  pub fault : HasGrammarFault lexemes (end_of bytes) place code
 
 -- the fault of the bytes: that of their tokens, or else that of the grammar
 abbrev pub IsFileFault : List ℕ → Place → ℕ → Type 0
 IsFileFault bytes place code = IsFault bytes place code ⊎ IsGrammarFault bytes place code
 
--- the same with the names before it and behind it: a fault of the tokens adds none, and one of the grammar those of all tokens
+-- the fault of the bytes, with the names before they are read and after: a fault of the tokens adds none, and one of the grammar
+-- those of all tokens
 abbrev pub IsFileRefused : List (List ℕ) → List (List ℕ) → List ℕ → Place → ℕ → Type 0
 IsFileRefused before names bytes place code =
     (IsFault bytes place code × (names ≡ before)) ⊎ IsGrammarRefused before names bytes place code

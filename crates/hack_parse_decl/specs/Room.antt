@@ -12,8 +12,8 @@ most_bytes = 2 ^ 20
 abbrev pub most_names : ℕ
 most_names = 2 ^ 30 - 1
 
--- there is room for the names of these bytes: with those of their tokens there are no more names than there may be. Bytes
--- that have no tokens add none, and need no room
+-- there is room for the names of these bytes: with those of their tokens there are no more names than there may be. Where
+-- the tokens have a fault no name is added, and no room is needed
 unfoldable pub HasRoom : List (List ℕ) → List ℕ → Type 0
 HasRoom names bytes =
     (lexemes : List Lexeme) → IsInput (with_names names bytes lexemes) bytes lexemes → length (with_names names bytes lexemes) ≤ most_names

@@ -22,7 +22,7 @@ use std::alloc::Global;
 
 /// The tree of a file, whose names are among `names` from now on (docs/language.md, Grammar). A fault is that of the file's
 /// tokens, which adds no name, or else that of its grammar, which adds the names of all tokens. After want of memory
-/// `names` may hold more names. A text of b bytes adds at most (b + 3) / 2 names.
+/// `names` may hold more names. A text of b bytes adds at most (b + 3) / 2 names, rounded down.
 pub fn parse_file(alloc: Global, names: &mut Names, bytes: &[u8]) -> Result<FileTree, ParseStop>
     requires short { length bytes.now ≤ most_bytes }
     requires room { HasRoom names.old bytes.now }
@@ -80,10 +80,10 @@ pub fn trees_stay()
         → IsTree names bytes tree → IsFileFault bytes place code → ⊥ }
 {}
 
-/// There is room for the names of a text by its length: a text of b bytes adds at most (b + 3) / 2 names.
+/// There is room for the names of a text by its length: a text of b bytes adds at most (b + 3) / 2 names, rounded down.
 pub fn room_by_length()
     ensures { (names : List (List ℕ)) (bytes : List ℕ)
-        → 2 * length names + length bytes + 3 ≤ 2 * most_names → HasRoom names bytes }
+        → 2 * length names + length bytes + 3 ≤ 2 * most_names + 1 → HasRoom names bytes }
 {}
 
 #[tactic(auto, unfolding(crate::specs::Files::units, hack_parse_expr::specs::Parsers::many_of, hack_parse_expr::specs::Parsers::many_from))]

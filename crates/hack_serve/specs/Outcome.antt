@@ -7,7 +7,7 @@ use Rattle.hack_serve.specs.Session.{Session, first_session, IsReplied, AreRepli
 use Rattle.hack_serve.specs.declared.status.Status.{Status}
 use Rattle.hack_serve.specs.declared.status.Status.TheVariants.{Done, Usage, BadScript, ReadFault, WriteFault, TooLong, NotBuilt, NoMemory}
 
--- what a source has left, where it tells that
+-- what a source has left, where it tells that, else nothing
 abbrev pub told : Option (List ℕ) → List ℕ
 told None = []
 told (Some left) = left
@@ -15,11 +15,11 @@ told (Some left) = left
 -- ---- commands that stand first
 
 -- of these bytes, whose first is in this line, these commands stand first, and behind them come `rest`, whose first is in the line
--- `next`; `whole` says that nothing comes behind the bytes, and only then the last line or body may lack its LF
+-- `behind`; `whole` says that nothing comes behind the bytes, and only then the last line or body may lack its LF
 abbrev pub StandFirst : Bool → ℕ → List ℕ → List (ℕ × Command) → ℕ → List ℕ → Type 0
-StandFirst whole line bytes [] next rest = (line ≡ next) × (bytes ≡ rest)
-StandFirst whole line bytes (command ∷ commands) next rest = (after : ℕ) × (behind : List ℕ)
-    × (next_command whole line bytes ≡ One command.1 command.0 after behind) × StandFirst whole after behind commands next rest
+StandFirst whole line bytes [] behind rest = (line ≡ behind) × (bytes ≡ rest)
+StandFirst whole line bytes (command ∷ commands) behind rest = (after : ℕ) × (more : List ℕ)
+    × (next_command whole line bytes ≡ One command.1 command.0 after more) × StandFirst whole after more commands behind rest
 
 -- these commands stand first in the bytes that were taken of a source in which this is left, where it tells that
 pub record StandTaken (taken : List ℕ) (left : Option (List ℕ)) (commands : List (ℕ × Command)) : Type 0 where
@@ -38,8 +38,8 @@ abbrev pub IsAnswered : List ℕ → List ℕ → Status → Type 0
 IsAnswered script out status = (commands : List (ℕ × Command)) × (end : End)
     × IsScript 1 script commands end × Replies first_session commands end out status
 
--- the bytes taken settle that the run ends so, whatever is left: commands stand first in them, the bytes written are the replies
--- to these, and what stands next, a command or the end of the script, ends the run
+-- the bytes taken, and that no more come where that is known, settle that the run ends so: commands stand first in them, the
+-- bytes written are the replies to these, and what stands next, a command or the end of the script, ends the run
 abbrev pub IsSettled : List ℕ → Option (List ℕ) → List ℕ → Status → Type 0
 IsSettled taken left out status = (commands : List (ℕ × Command)) × (last : Session)
     × (front : StandTaken taken left commands) × AreReplied first_session commands out last

@@ -2,7 +2,7 @@
 use Rattle.std.specs.Prelude.{◌≡◌, ℕ, List, ◌++◌, Option, None, Some}
 use Rattle.std.specs.Io.KnownBytes.{Appends}
 
--- where the source told the script: it holds of the script, of what was taken of it, of what is left, and of what was written
+-- P holds of the script, what was taken of it, what is left, and what was written; of a source that tells nothing, nothing is said
 abbrev pub OfScript : Option (List ℕ) → Option (List ℕ) → Option (List ℕ) → Option (List ℕ)
     → (List ℕ → List ℕ → Option (List ℕ) → List ℕ → Type 0) → Type 0
 OfScript None left before now P = Unit {0}

@@ -38,7 +38,8 @@ pub fn hack_main<S: Source, K: Sink>(
     ensures answers { Answers result
         (S.left source.old) (S.left source.new) (K.written sink.old) (K.written sink.new) }
 
-    // Of a source that tells the script: the whole script has this answer, and what was taken of it settles that.
+    // Of a source that tells the script: the whole script has this answer, and what was taken of it settles that, from which
+    // the former follows (`one_answer`).
     ensures done { result ≡ Status.Done
         → OfScript (S.left source.old) (S.left source.new) (K.written sink.old) (K.written sink.new)
         (λ script taken left out. IsAnswered script out Status.Done
@@ -76,7 +77,7 @@ pub fn hack_main<S: Source, K: Sink>(
 }
 
 /// A script has one answer, which all of it settles, and files have one report: what `hack_main` says of its output leaves no
-/// choice. What a front of a script settles is its answer, whatever the rest is.
+/// choice. What the bytes taken settle is the answer of the whole script, of them and what is left.
 pub fn one_answer()
     ensures answer { (script out other : List ℕ) (status ends : Status)
         → IsAnswered script out status → IsAnswered script other ends

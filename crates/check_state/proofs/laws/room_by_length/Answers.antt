@@ -7,7 +7,7 @@ use Rattle.check_state.specs.Edits.{twice_names}
 use Rattle.check_state.specs.Stands.{names_of, name_count, HasRoomFor}
 use Rattle.check_state.proofs.laws.room_by_length.Goals as goal
 
-has_room : (state : State) (edit : Edit) → 2 * name_count state + twice_names edit ≤ 2 * most_names → HasRoomFor state edit
+has_room : (state : State) (edit : Edit) → 2 * name_count state + twice_names edit ≤ 2 * most_names + 1 → HasRoomFor state edit
 has_room state (Put name bytes) few = names.room_by_length (names_of state) bytes (omega (arith, few))
 has_room state (Remove name) few = tt
 
