@@ -10,7 +10,7 @@ ghost use Rattle.hack_serve.specs.declared.status.Status.TheVariants.{NoMemory a
 
 use crate::Status;
 use crate::command::Command;
-use check_state::{Edit, EditStop, State};
+use check_state::{Edit, EditStop, State, room_by_length};
 use hack_types::NoMemory;
 use script_text::Reply;
 use std::alloc::Global;
@@ -86,6 +86,8 @@ impl Session {
         ensures edits { OnOk result (self.new.edits ≤ self.old.edits + 1) }
         ensures checks { self.new.checks ≡ self.old.checks }
     {
+        // By its length there is room for the names of this text.
+        room_by_length();
         match self.state.edit(alloc, Edit::Put { name, bytes: body }) {
             Ok(()) => {
                 self.edits += 1;
@@ -102,7 +104,6 @@ impl Session {
     /// Takes a file away.
     fn remove(&mut self, alloc: Global, name: Vec<u8>) -> Result<Reply, Status>
         requires short { IsShort (script.Drop name.items) }
-        requires room { 2 * name_count self.old.state ≤ 2 ^ 31 - 2 }
         requires edits { self.old.edits + 1 < 2 ^ 64 }
         ensures replied { IfOk result (λ reply. (s : model.Session) → StandsFor self.old s
             → HasReplied self.new (script.Drop name.items) reply s) }
