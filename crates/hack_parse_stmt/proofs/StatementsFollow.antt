@@ -1,5 +1,6 @@
 -- The parsers of statements follow the grammar's runs.
 use Rattle.std.proofs.Common.{◌≡◌, ◌↔◌, ℕ, zero, suc, ◌<◌, Bool, true, false, List, [], ◌∷◌, length, Option, None, Some, Ok, Err, refl, sym, ◌||◌, if◌then◌else◌}
+use Rattle.hack_lexer.specs.declared.kind.Mark.{Mark}
 use Rattle.hack_lexer.specs.declared.kind.Mark.TheVariants as mark
 use Rattle.hack_lexer.specs.declared.kind.Keyword.TheVariants as keyword
 use Rattle.hack_tree.specs.declared.expression.Expr.{Expr}
@@ -28,6 +29,8 @@ use Rattle.hack_parse_expr.proofs.TypesFollow.{if_row, named_follows, type_follo
 use Rattle.hack_parse_expr.proofs.OperandsFollow.{and_then_twice}
 use Rattle.hack_parse_expr.proofs.ExpressionsFollow.{expression_follows, may_stand_follows, with_commas_follow, one_or_more_follow, operand_follows}
 use Rattle.hack_parse_expr.proofs.Alone.{stands_law, fails_law}
+use Rattle.hack_parse_stmt.specs.declared.statements.ForHead.{ForHead}
+use Rattle.hack_parse_stmt.specs.declared.statements.CatchHead.{CatchHead}
 use Rattle.hack_parse_stmt.specs.Statements as parsers
 use Rattle.hack_parse_stmt.specs.Statements.{statement, block}
 
@@ -157,7 +160,7 @@ module _ (depth : ℕ) (nested : Parser Stmt) (nested_follows : FollowsOne depth
 
   -- an expression
   abbrev an_expression : Piece depth
-  an_expression = the_symbol (rule Expression) (parsers.expression depth nested) (expression_follows depth)
+  an_expression = the_symbol (rule Expression) (parsers.expression depth) (expression_follows depth)
 
   -- an expression that may stand
   abbrev may_stand : Piece depth
@@ -175,13 +178,90 @@ module _ (depth : ℕ) (nested : Parser Stmt) (nested_follows : FollowsOne depth
   }
 
   -- it follows its three parts
-  bracketed_follows : Follows depth (one (Mark_ mark.OpenParen) ∷ rule Expression ∷ one (Mark_ mark.CloseParen) ∷ []) (λ _ inner _. inner) (parsers.bracketed depth nested)
+  bracketed_follows : Follows depth (one (Mark_ mark.OpenParen) ∷ rule Expression ∷ one (Mark_ mark.CloseParen) ∷ []) (λ _ inner _. inner) (parsers.bracketed depth)
   unfolding parsers.bracketed
   bracketed_follows = turn_follows bracketed_turn
 
   -- it as a piece
   abbrev bracketed : Piece depth
-  bracketed = a_parser (one (Mark_ mark.OpenParen) ∷ rule Expression ∷ one (Mark_ mark.CloseParen) ∷ []) (λ _ inner _. inner) (parsers.bracketed depth nested) bracketed_follows
+  bracketed = a_parser (one (Mark_ mark.OpenParen) ∷ rule Expression ∷ one (Mark_ mark.CloseParen) ∷ []) (λ _ inner _. inner) (parsers.bracketed depth) bracketed_follows
+
+  -- an expression that may stand, and `;`
+  abbrev value_if_any_turn : Turn depth (Option Expr)
+  value_if_any_turn = record { pieces = may_stand and the (Mark_ mark.Semicolon) and done; makes = λ value _. value }
+
+  value_if_any_follows : Follows depth (optional (rule Expression) ∷ one (Mark_ mark.Semicolon) ∷ []) (λ value _. value) (parsers.value_if_any depth)
+  unfolding parsers.value_if_any
+  value_if_any_follows = turn_follows value_if_any_turn
+
+  abbrev value_if_any : Piece depth
+  value_if_any = a_parser (optional (rule Expression) ∷ one (Mark_ mark.Semicolon) ∷ []) (λ value _. value) (parsers.value_if_any depth) value_if_any_follows
+
+  -- expressions, and this mark behind them
+  abbrev expressions_to_turn : Mark → Turn depth (List Expr)
+  expressions_to_turn m = record { pieces = with_commas and the (Mark_ m) and done; makes = λ found _. found }
+
+  expressions_to_follows : (m : Mark) → Follows depth (list (rule Expression) ∷ one (Mark_ m) ∷ []) (λ found _. found) (parsers.expressions_to depth m)
+  unfolding parsers.expressions_to
+  expressions_to_follows m = turn_follows (expressions_to_turn m)
+
+  abbrev expressions_to : Mark → Piece depth
+  expressions_to m = a_parser (list (rule Expression) ∷ one (Mark_ m) ∷ []) (λ found _. found) (parsers.expressions_to depth m) (expressions_to_follows m)
+
+  -- the brackets of a `for`
+  abbrev for_head_turn : Turn depth (ForHead)
+  for_head_turn = record { pieces = the (Mark_ mark.OpenParen) and expressions_to mark.Semicolon and value_if_any and expressions_to mark.CloseParen and done; makes = λ _ first condition step. record { start = first; condition = condition; step = step } }
+
+  for_head_follows : Follows depth (one (Mark_ mark.OpenParen) ∷ list (rule Expression) ∷ one (Mark_ mark.Semicolon) ∷ optional (rule Expression) ∷ one (Mark_ mark.Semicolon) ∷ list (rule Expression) ∷ one (Mark_ mark.CloseParen) ∷ []) (λ _ first _ condition _ step _. record { start = first; condition = condition; step = step }) (parsers.for_head depth)
+  unfolding parsers.for_head
+  for_head_follows = turn_follows for_head_turn
+
+  abbrev for_head : Piece depth
+  for_head = a_parser (one (Mark_ mark.OpenParen) ∷ list (rule Expression) ∷ one (Mark_ mark.Semicolon) ∷ optional (rule Expression) ∷ one (Mark_ mark.Semicolon) ∷ list (rule Expression) ∷ one (Mark_ mark.CloseParen) ∷ []) (λ _ first _ condition _ step _. record { start = first; condition = condition; step = step }) (parsers.for_head depth) for_head_follows
+
+  -- what a `foreach` goes over, and `as`
+  abbrev foreach_subject_turn : Turn depth (Expr)
+  foreach_subject_turn = record { pieces = the (Mark_ mark.OpenParen) and the_symbol (rule Postfix) (postfix depth (nests depth)) (operand_follows depth) and the (Keyword_ keyword.As) and done; makes = λ _ subject _. subject }
+
+  foreach_subject_follows : Follows depth (one (Mark_ mark.OpenParen) ∷ rule Postfix ∷ one (Keyword_ keyword.As) ∷ []) (λ _ subject _. subject) (parsers.foreach_subject depth)
+  unfolding parsers.foreach_subject
+  foreach_subject_follows = turn_follows foreach_subject_turn
+
+  abbrev foreach_subject : Piece depth
+  foreach_subject = a_parser (one (Mark_ mark.OpenParen) ∷ rule Postfix ∷ one (Keyword_ keyword.As) ∷ []) (λ _ subject _. subject) (parsers.foreach_subject depth) foreach_subject_follows
+
+  -- the variables of a `foreach`, and `)`
+  abbrev variables_closed_turn : Turn depth (Option DeclaredName × DeclaredName)
+  variables_closed_turn = record { pieces = the_symbol (rule Variables) parsers.variables (variables_follow depth) and the (Mark_ mark.CloseParen) and done; makes = λ found _. found }
+
+  variables_closed_follows : Follows depth (rule Variables ∷ one (Mark_ mark.CloseParen) ∷ []) (λ found _. found) (parsers.variables_closed)
+  unfolding parsers.variables_closed
+  variables_closed_follows = turn_follows variables_closed_turn
+
+  abbrev variables_closed : Piece depth
+  variables_closed = a_parser (rule Variables ∷ one (Mark_ mark.CloseParen) ∷ []) (λ found _. found) (parsers.variables_closed) variables_closed_follows
+
+  -- what stands behind the statement of a `do`
+  abbrev do_condition_turn : Turn depth (Expr)
+  do_condition_turn = record { pieces = the (Keyword_ keyword.While) and bracketed and the (Mark_ mark.Semicolon) and done; makes = λ _ condition _. condition }
+
+  do_condition_follows : Follows depth (one (Keyword_ keyword.While) ∷ one (Mark_ mark.OpenParen) ∷ rule Expression ∷ one (Mark_ mark.CloseParen) ∷ one (Mark_ mark.Semicolon) ∷ []) (λ _ _ condition _ _. condition) (parsers.do_condition depth)
+  unfolding parsers.do_condition
+  do_condition_follows = turn_follows do_condition_turn
+
+  abbrev do_condition : Piece depth
+  do_condition = a_parser (one (Keyword_ keyword.While) ∷ one (Mark_ mark.OpenParen) ∷ rule Expression ∷ one (Mark_ mark.CloseParen) ∷ one (Mark_ mark.Semicolon) ∷ []) (λ _ _ condition _ _. condition) (parsers.do_condition depth) do_condition_follows
+
+  -- the brackets of a catch
+  abbrev catch_head_turn : Turn depth (CatchHead)
+  catch_head_turn = record { pieces = the (Mark_ mark.OpenParen) and the_symbol (rule ClassType_) (named (written_type depth)) (named_follows depth (written_type depth) (type_follows depth)) and the_made Variable declared_name and the (Mark_ mark.CloseParen) and done; makes = λ _ class name _. record { class = class; variable = name } }
+
+  catch_head_follows : Follows depth (one (Mark_ mark.OpenParen) ∷ rule ClassType_ ∷ one Variable ∷ one (Mark_ mark.CloseParen) ∷ []) (λ _ class t _. record { class = class; variable = declared_name t }) (parsers.catch_head depth)
+  unfolding parsers.catch_head
+  catch_head_follows = turn_follows catch_head_turn
+
+  abbrev catch_head : Piece depth
+  catch_head = a_parser (one (Mark_ mark.OpenParen) ∷ rule ClassType_ ∷ one Variable ∷ one (Mark_ mark.CloseParen) ∷ []) (λ _ class t _. record { class = class; variable = declared_name t }) (parsers.catch_head depth) catch_head_follows
 
   -- ---- cases
 
@@ -230,19 +310,29 @@ module _ (depth : ℕ) (nested : Parser Stmt) (nested_follows : FollowsOne depth
   unfolding parsers.cases
   cases_follow = many_follows depth (rule Case) parsers.begins_case (parsers.case depth nested) begins_cases refl case_follows case_shrinks
 
-  -- ---- catches
+  -- cases in braces
+  abbrev case_block_turn : Turn depth (List CaseTree)
+  case_block_turn = record { pieces = the (Mark_ mark.OpenBrace) and the_symbol (many (rule Case)) (parsers.cases depth nested) cases_follow and the (Mark_ mark.CloseBrace) and done; makes = λ _ found _. found }
 
-  -- what stands behind `catch`
-  abbrev caught : Pieces depth
-  caught = the (Mark_ mark.OpenParen) and the_symbol (rule ClassType_) (named (written_type depth)) (named_follows depth (written_type depth) (type_follows depth)) and the_made Variable declared_name and the (Mark_ mark.CloseParen) and a_block and done
+  case_block_follows : Follows depth (one (Mark_ mark.OpenBrace) ∷ many (rule Case) ∷ one (Mark_ mark.CloseBrace) ∷ []) (λ _ found _. found) (parsers.case_block depth nested)
+  unfolding parsers.case_block
+  case_block_follows = turn_follows case_block_turn
+
+  abbrev case_block : Piece depth
+  case_block = a_parser (one (Mark_ mark.OpenBrace) ∷ many (rule Case) ∷ one (Mark_ mark.CloseBrace) ∷ []) (λ _ found _. found) (parsers.case_block depth nested) case_block_follows
+
+  -- ---- catches
 
   -- a catch, behind whatever token comes first
   abbrev catch_turn : Turn depth CatchTree
-  catch_turn = record { pieces = a_token and caught; makes = λ _ _ class name _ body. roll-Catch (record { class = class; variable = name; body = body }) }
+  catch_turn = record { pieces = a_token and catch_head and a_block and done; makes = λ _ head body. roll-Catch (record { class = head.class; variable = head.variable; body = body }) }
 
   -- a catch, behind `catch`
   abbrev strict_turn : Turn depth CatchTree
-  strict_turn = record { pieces = the (Keyword_ keyword.Catch) and caught; makes = λ _ _ class name _ body. roll-Catch (record { class = class; variable = name; body = body }) }
+  strict_turn = record {
+    pieces = the (Keyword_ keyword.Catch) and catch_head and a_block and done;
+    makes = λ _ head body. roll-Catch (record { class = head.class; variable = head.variable; body = body });
+  }
 
   -- a catch behind `catch`
   catch_follows : FollowsOne depth (rule Catch) (turn strict_turn)
@@ -298,36 +388,36 @@ module _ (depth : ℕ) (nested : Parser Stmt) (nested_follows : FollowsOne depth
   -- `do`
   abbrev do_statement : Turn depth Stmt
   do_statement = record {
-    pieces = a_token and a_statement and the (Keyword_ keyword.While) and bracketed and the (Mark_ mark.Semicolon) and done;
-    makes = λ t body _ condition _. stmt.DoWhile t.at body condition;
+    pieces = a_token and a_statement and do_condition and done;
+    makes = λ t body condition. stmt.DoWhile t.at body condition;
   }
 
   -- `for`
   abbrev for_statement : Turn depth Stmt
   for_statement = record {
-    pieces = a_token and the (Mark_ mark.OpenParen) and with_commas and the (Mark_ mark.Semicolon) and may_stand and the (Mark_ mark.Semicolon) and with_commas and the (Mark_ mark.CloseParen) and a_statement and done;
-    makes = λ t _ first _ condition _ step _ body. stmt.For t.at first condition step body;
+    pieces = a_token and for_head and a_statement and done;
+    makes = λ t head body. stmt.For t.at head.start head.condition head.step body;
   }
 
   -- `foreach`
   abbrev foreach_statement : Turn depth Stmt
   foreach_statement = record {
-    pieces = a_token and the (Mark_ mark.OpenParen) and the_symbol (rule Postfix) (postfix depth (nests depth)) (operand_follows depth) and the (Keyword_ keyword.As) and the_symbol (rule Variables) parsers.variables (variables_follow depth) and the (Mark_ mark.CloseParen) and a_statement and done;
-    makes = λ t _ subject _ found _ body. stmt.Foreach t.at subject found.0 found.1 body;
+    pieces = a_token and foreach_subject and variables_closed and a_statement and done;
+    makes = λ t subject found body. stmt.Foreach t.at subject found.0 found.1 body;
   }
 
   -- `switch`
   abbrev switch_statement : Turn depth Stmt
   switch_statement = record {
-    pieces = a_token and bracketed and the (Mark_ mark.OpenBrace) and the_symbol (many (rule Case)) (parsers.cases depth nested) cases_follow and the (Mark_ mark.CloseBrace) and done;
-    makes = λ t subject _ found _. stmt.Switch t.at subject found;
+    pieces = a_token and bracketed and case_block and done;
+    makes = λ t subject found. stmt.Switch t.at subject found;
   }
 
   -- `return`
   abbrev return_statement : Turn depth Stmt
   return_statement = record {
-    pieces = a_token and may_stand and the (Mark_ mark.Semicolon) and done;
-    makes = λ t value _. stmt.Return t.at value;
+    pieces = a_token and value_if_any and done;
+    makes = λ t value. stmt.Return t.at value;
   }
 
   -- `throw`

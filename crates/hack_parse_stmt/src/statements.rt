@@ -9,7 +9,7 @@ use hack_parse_expr::{
     Cursor, ParseStop, StatementRow, class_type, expression, expression_if_any, expressions,
     expressions1, postfix, statement_row,
 };
-use hack_tree::{Case, Catch, DeclaredName, Expr, Stmt};
+use hack_tree::{Case, Catch, ClassType, DeclaredName, Expr, Stmt};
 use sqlite_items::{Boxed, Items};
 use std::alloc::Global;
 
@@ -20,6 +20,21 @@ pub(crate) struct StatementGrammar<F> {
     // how many rows that count as nesting may still be opened
     depth: usize,
     nested: F,
+}
+
+// What stands in the brackets of a `for`.
+#[derive(Drop)]
+struct ForHead {
+    start: Items<Expr>,
+    condition: Option<Expr>,
+    step: Items<Expr>,
+}
+
+// What stands in the brackets of a catch.
+#[derive(Drop)]
+struct CatchHead {
+    class: ClassType,
+    variable: DeclaredName,
 }
 
 /// A statement in which `depth` rows that count as nesting may be opened, itself among them.
@@ -91,6 +106,177 @@ pub(crate) fn variables(
     Ok((Some(first), second))
 }
 
+// They and the bracket behind them.
+#[tactic(auto, unfolding(crate::specs::Statements::variables_closed))]
+fn variables_closed(
+    cursor: &mut Cursor<'_>,
+) -> Result<(Option<DeclaredName>, DeclaredName), ParseStop>
+    ensures { Reads (spec.variables_closed cursor.old) result cursor.new }
+{
+    let found = variables(cursor)?;
+    cursor.expect(Mark::CloseParen)?;
+    Ok(found)
+}
+
+// An expression in brackets.
+#[tactic(auto, unfolding(crate::specs::Statements::bracketed))]
+fn bracketed(alloc: Global, cursor: &mut Cursor<'_>, depth: usize) -> Result<Expr, ParseStop>
+    ensures { Reads (spec.bracketed depth cursor.old) result cursor.new }
+{
+    cursor.expect(Mark::OpenParen)?;
+    let inner = expression(alloc, cursor, depth)?;
+    cursor.expect(Mark::CloseParen)?;
+    Ok(inner)
+}
+
+// An expression that may stand, and `;`.
+#[tactic(auto, unfolding(crate::specs::Statements::value_if_any))]
+fn value_if_any(
+    alloc: Global,
+    cursor: &mut Cursor<'_>,
+    depth: usize,
+) -> Result<Option<Expr>, ParseStop>
+    ensures { Reads (spec.value_if_any depth cursor.old) result cursor.new }
+{
+    let value = expression_if_any(alloc, cursor, depth)?;
+    cursor.expect(Mark::Semicolon)?;
+    Ok(value)
+}
+
+// Expressions, and this mark behind them.
+#[tactic(auto, unfolding(crate::specs::Statements::expressions_to))]
+fn expressions_to(
+    alloc: Global,
+    cursor: &mut Cursor<'_>,
+    depth: usize,
+    mark: Mark,
+) -> Result<Items<Expr>, ParseStop>
+    ensures { Reads (spec.expressions_to depth mark cursor.old) result cursor.new }
+{
+    let found = expressions(alloc, cursor, depth)?;
+    cursor.expect(mark)?;
+    Ok(found)
+}
+
+// The brackets of a `for`.
+#[tactic(auto, unfolding(crate::specs::Statements::for_head))]
+fn for_head(alloc: Global, cursor: &mut Cursor<'_>, depth: usize) -> Result<ForHead, ParseStop>
+    ensures { Reads (spec.for_head depth cursor.old) result cursor.new }
+{
+    cursor.expect(Mark::OpenParen)?;
+    let start = expressions_to(alloc, cursor, depth, Mark::Semicolon)?;
+    let condition = value_if_any(alloc, cursor, depth)?;
+    let step = expressions_to(alloc, cursor, depth, Mark::CloseParen)?;
+    Ok(ForHead {
+        start,
+        condition,
+        step,
+    })
+}
+
+// What a `foreach` goes over, and `as`.
+#[tactic(auto, unfolding(crate::specs::Statements::foreach_subject))]
+fn foreach_subject(alloc: Global, cursor: &mut Cursor<'_>, depth: usize) -> Result<Expr, ParseStop>
+    ensures { Reads (spec.foreach_subject depth cursor.old) result cursor.new }
+{
+    cursor.expect(Mark::OpenParen)?;
+    let subject = postfix(alloc, cursor, depth)?;
+    cursor.expect_keyword(Keyword::As)?;
+    Ok(subject)
+}
+
+// What stands behind the statement of a `do`.
+#[tactic(auto, unfolding(crate::specs::Statements::do_condition))]
+fn do_condition(alloc: Global, cursor: &mut Cursor<'_>, depth: usize) -> Result<Expr, ParseStop>
+    ensures { Reads (spec.do_condition depth cursor.old) result cursor.new }
+{
+    cursor.expect_keyword(Keyword::While)?;
+    let condition = bracketed(alloc, cursor, depth)?;
+    cursor.expect(Mark::Semicolon)?;
+    Ok(condition)
+}
+
+// The class and the variable of a catch, in brackets.
+#[tactic(auto, unfolding(crate::specs::Statements::catch_head))]
+fn catch_head(alloc: Global, cursor: &mut Cursor<'_>, depth: usize) -> Result<CatchHead, ParseStop>
+    ensures { Reads (spec.catch_head depth cursor.old) result cursor.new }
+{
+    cursor.expect(Mark::OpenParen)?;
+    let class = class_type(alloc, cursor, depth)?;
+    let variable = variable(cursor)?;
+    cursor.expect(Mark::CloseParen)?;
+    Ok(CatchHead { class, variable })
+}
+
+#[tactic(auto, unfolding(crate::specs::Statements::empty_statement))]
+fn empty(cursor: &mut Cursor<'_>) -> Result<Stmt, ParseStop>
+    ensures { Reads (spec.empty_statement cursor.old) result cursor.new }
+{
+    let at = cursor.token()?.at;
+    Ok(Stmt::Empty { at })
+}
+
+#[tactic(auto, unfolding(crate::specs::Statements::return_statement))]
+fn return_statement(alloc: Global, cursor: &mut Cursor<'_>, depth: usize) -> Result<Stmt, ParseStop>
+    ensures { Reads (spec.return_statement depth cursor.old) result cursor.new }
+{
+    let at = cursor.token()?.at;
+    let value = value_if_any(alloc, cursor, depth)?;
+    Ok(Stmt::Return { at, value })
+}
+
+#[tactic(auto, unfolding(crate::specs::Statements::throw_statement))]
+fn throw_statement(alloc: Global, cursor: &mut Cursor<'_>, depth: usize) -> Result<Stmt, ParseStop>
+    ensures { Reads (spec.throw_statement depth cursor.old) result cursor.new }
+{
+    let at = cursor.token()?.at;
+    let value = expression(alloc, cursor, depth)?;
+    cursor.expect(Mark::Semicolon)?;
+    Ok(Stmt::Throw { at, value })
+}
+
+#[tactic(auto, unfolding(crate::specs::Statements::break_statement))]
+fn break_statement(cursor: &mut Cursor<'_>) -> Result<Stmt, ParseStop>
+    ensures { Reads (spec.break_statement cursor.old) result cursor.new }
+{
+    let at = cursor.token()?.at;
+    cursor.expect(Mark::Semicolon)?;
+    Ok(Stmt::Break { at })
+}
+
+#[tactic(auto, unfolding(crate::specs::Statements::continue_statement))]
+fn continue_statement(cursor: &mut Cursor<'_>) -> Result<Stmt, ParseStop>
+    ensures { Reads (spec.continue_statement cursor.old) result cursor.new }
+{
+    let at = cursor.token()?.at;
+    cursor.expect(Mark::Semicolon)?;
+    Ok(Stmt::Continue { at })
+}
+
+#[tactic(auto, unfolding(crate::specs::Statements::echo_statement))]
+fn echo_statement(alloc: Global, cursor: &mut Cursor<'_>, depth: usize) -> Result<Stmt, ParseStop>
+    ensures { Reads (spec.echo_statement depth cursor.old) result cursor.new }
+{
+    let at = cursor.token()?.at;
+    let values = expressions1(alloc, cursor, depth)?;
+    cursor.expect(Mark::Semicolon)?;
+    Ok(Stmt::Echo { at, values })
+}
+
+#[tactic(auto, unfolding(crate::specs::Statements::expression_statement))]
+fn expression_statement(
+    alloc: Global,
+    cursor: &mut Cursor<'_>,
+    depth: usize,
+) -> Result<Stmt, ParseStop>
+    ensures { Reads (spec.expression_statement depth cursor.old) result cursor.new }
+{
+    let at = cursor.place()?;
+    let expression = expression(alloc, cursor, depth)?;
+    cursor.expect(Mark::Semicolon)?;
+    Ok(Stmt::Expression { at, expression })
+}
+
 impl<F: Fn(Global, &mut Cursor<'_>, usize) -> Result<Stmt, ParseStop>> StatementGrammar<F> {
     fn nested(&self, cursor: &mut Cursor<'_>) -> Result<Stmt, ParseStop>
         requires { NestsStatements self.now.depth (F.pre self.now.nested) (F.post self.now.nested) }
@@ -106,12 +292,6 @@ impl<F: Fn(Global, &mut Cursor<'_>, usize) -> Result<Stmt, ParseStop>> Statement
         Ok(Boxed::new(self.alloc, self.nested(cursor)?)?)
     }
 
-    fn expression(&self, cursor: &mut Cursor<'_>) -> Result<Expr, ParseStop>
-        ensures { Reads (spec.expression self.now.depth (spec.statement self.now.depth) cursor.old) result cursor.new }
-    {
-        expression(self.alloc, cursor, self.depth)
-    }
-
     #[tactic(auto, unfolding(crate::specs::Statements::statement_read))]
     fn statement_read(&self, cursor: &mut Cursor<'_>) -> Result<Stmt, ParseStop>
         requires { NestsStatements self.now.depth (F.pre self.now.nested) (F.post self.now.nested) }
@@ -119,20 +299,20 @@ impl<F: Fn(Global, &mut Cursor<'_>, usize) -> Result<Stmt, ParseStop>> Statement
     {
         match statement_row(cursor.kind(), cursor.second_kind()) {
             Some(StatementRow::Block) => self.block_statement(cursor),
-            Some(StatementRow::Empty) => self.empty(cursor),
+            Some(StatementRow::Empty) => empty(cursor),
             Some(StatementRow::If) => self.if_statement(cursor),
             Some(StatementRow::While) => self.while_statement(cursor),
             Some(StatementRow::DoWhile) => self.do_statement(cursor),
             Some(StatementRow::For) => self.for_statement(cursor),
             Some(StatementRow::Foreach) => self.foreach_statement(cursor),
             Some(StatementRow::Switch) => self.switch_statement(cursor),
-            Some(StatementRow::Return) => self.return_statement(cursor),
-            Some(StatementRow::Throw) => self.throw_statement(cursor),
-            Some(StatementRow::Break) => self.break_statement(cursor),
-            Some(StatementRow::Continue) => self.continue_statement(cursor),
-            Some(StatementRow::Echo) => self.echo_statement(cursor),
+            Some(StatementRow::Return) => return_statement(self.alloc, cursor, self.depth),
+            Some(StatementRow::Throw) => throw_statement(self.alloc, cursor, self.depth),
+            Some(StatementRow::Break) => break_statement(cursor),
+            Some(StatementRow::Continue) => continue_statement(cursor),
+            Some(StatementRow::Echo) => echo_statement(self.alloc, cursor, self.depth),
             Some(StatementRow::Try) => self.try_statement(cursor),
-            Some(StatementRow::Expression) => self.expression_statement(cursor),
+            Some(StatementRow::Expression) => expression_statement(self.alloc, cursor, self.depth),
             None => Err(cursor.refuse()),
         }
     }
@@ -163,18 +343,6 @@ impl<F: Fn(Global, &mut Cursor<'_>, usize) -> Result<Stmt, ParseStop>> Statement
         Ok(found)
     }
 
-    // An expression in brackets.
-    #[tactic(auto, unfolding(crate::specs::Statements::bracketed))]
-    fn bracketed(&self, cursor: &mut Cursor<'_>) -> Result<Expr, ParseStop>
-        requires { NestsStatements self.now.depth (F.pre self.now.nested) (F.post self.now.nested) }
-        ensures { Reads (spec.bracketed self.now.depth (spec.statement self.now.depth) cursor.old) result cursor.new }
-    {
-        cursor.expect(Mark::OpenParen)?;
-        let inner = self.expression(cursor)?;
-        cursor.expect(Mark::CloseParen)?;
-        Ok(inner)
-    }
-
     #[tactic(auto, unfolding(crate::specs::Statements::block_statement))]
     fn block_statement(&self, cursor: &mut Cursor<'_>) -> Result<Stmt, ParseStop>
         requires { NestsStatements self.now.depth (F.pre self.now.nested) (F.post self.now.nested) }
@@ -185,22 +353,13 @@ impl<F: Fn(Global, &mut Cursor<'_>, usize) -> Result<Stmt, ParseStop>> Statement
         Ok(Stmt::Block { at, body })
     }
 
-    #[tactic(auto, unfolding(crate::specs::Statements::empty_statement))]
-    fn empty(&self, cursor: &mut Cursor<'_>) -> Result<Stmt, ParseStop>
-        requires { NestsStatements self.now.depth (F.pre self.now.nested) (F.post self.now.nested) }
-        ensures { Reads (spec.empty_statement self.now.depth (spec.statement self.now.depth) cursor.old) result cursor.new }
-    {
-        let at = cursor.token()?.at;
-        Ok(Stmt::Empty { at })
-    }
-
     #[tactic(auto, unfolding(crate::specs::Statements::if_statement))]
     fn if_statement(&self, cursor: &mut Cursor<'_>) -> Result<Stmt, ParseStop>
         requires { NestsStatements self.now.depth (F.pre self.now.nested) (F.post self.now.nested) }
         ensures { Reads (spec.if_statement self.now.depth (spec.statement self.now.depth) cursor.old) result cursor.new }
     {
         let at = cursor.token()?.at;
-        let condition = self.bracketed(cursor)?;
+        let condition = bracketed(self.alloc, cursor, self.depth)?;
         let then = self.nested_boxed(cursor)?;
         let otherwise = self.otherwise(cursor)?;
         Ok(Stmt::If {
@@ -230,7 +389,7 @@ impl<F: Fn(Global, &mut Cursor<'_>, usize) -> Result<Stmt, ParseStop>> Statement
         ensures { Reads (spec.while_statement self.now.depth (spec.statement self.now.depth) cursor.old) result cursor.new }
     {
         let at = cursor.token()?.at;
-        let condition = self.bracketed(cursor)?;
+        let condition = bracketed(self.alloc, cursor, self.depth)?;
         let body = self.nested_boxed(cursor)?;
         Ok(Stmt::While {
             at,
@@ -246,9 +405,7 @@ impl<F: Fn(Global, &mut Cursor<'_>, usize) -> Result<Stmt, ParseStop>> Statement
     {
         let at = cursor.token()?.at;
         let body = self.nested_boxed(cursor)?;
-        cursor.expect_keyword(Keyword::While)?;
-        let condition = self.bracketed(cursor)?;
-        cursor.expect(Mark::Semicolon)?;
+        let condition = do_condition(self.alloc, cursor, self.depth)?;
         Ok(Stmt::DoWhile {
             at,
             body,
@@ -262,19 +419,13 @@ impl<F: Fn(Global, &mut Cursor<'_>, usize) -> Result<Stmt, ParseStop>> Statement
         ensures { Reads (spec.for_statement self.now.depth (spec.statement self.now.depth) cursor.old) result cursor.new }
     {
         let at = cursor.token()?.at;
-        cursor.expect(Mark::OpenParen)?;
-        let start = expressions(self.alloc, cursor, self.depth)?;
-        cursor.expect(Mark::Semicolon)?;
-        let condition = expression_if_any(self.alloc, cursor, self.depth)?;
-        cursor.expect(Mark::Semicolon)?;
-        let step = expressions(self.alloc, cursor, self.depth)?;
-        cursor.expect(Mark::CloseParen)?;
+        let head = for_head(self.alloc, cursor, self.depth)?;
         let body = self.nested_boxed(cursor)?;
         Ok(Stmt::For {
             at,
-            start,
-            condition,
-            step,
+            start: head.start,
+            condition: head.condition,
+            step: head.step,
             body,
         })
     }
@@ -285,11 +436,8 @@ impl<F: Fn(Global, &mut Cursor<'_>, usize) -> Result<Stmt, ParseStop>> Statement
         ensures { Reads (spec.foreach_statement self.now.depth (spec.statement self.now.depth) cursor.old) result cursor.new }
     {
         let at = cursor.token()?.at;
-        cursor.expect(Mark::OpenParen)?;
-        let subject = postfix(self.alloc, cursor, self.depth)?;
-        cursor.expect_keyword(Keyword::As)?;
-        let (key, value) = variables(cursor)?;
-        cursor.expect(Mark::CloseParen)?;
+        let subject = foreach_subject(self.alloc, cursor, self.depth)?;
+        let (key, value) = variables_closed(cursor)?;
         let body = self.nested_boxed(cursor)?;
         Ok(Stmt::Foreach {
             at,
@@ -306,11 +454,20 @@ impl<F: Fn(Global, &mut Cursor<'_>, usize) -> Result<Stmt, ParseStop>> Statement
         ensures { Reads (spec.switch_statement self.now.depth (spec.statement self.now.depth) cursor.old) result cursor.new }
     {
         let at = cursor.token()?.at;
-        let subject = self.bracketed(cursor)?;
-        cursor.expect(Mark::OpenBrace)?;
-        let cases = self.cases(cursor)?;
-        cursor.expect(Mark::CloseBrace)?;
+        let subject = bracketed(self.alloc, cursor, self.depth)?;
+        let cases = self.case_block(cursor)?;
         Ok(Stmt::Switch { at, subject, cases })
+    }
+
+    #[tactic(auto, unfolding(crate::specs::Statements::case_block))]
+    fn case_block(&self, cursor: &mut Cursor<'_>) -> Result<Items<Case>, ParseStop>
+        requires { NestsStatements self.now.depth (F.pre self.now.nested) (F.post self.now.nested) }
+        ensures { Reads (spec.case_block self.now.depth (spec.statement self.now.depth) cursor.old) result cursor.new }
+    {
+        cursor.expect(Mark::OpenBrace)?;
+        let found = self.cases(cursor)?;
+        cursor.expect(Mark::CloseBrace)?;
+        Ok(found)
     }
 
     #[tactic(auto, unfolding(crate::specs::Statements::cases, hack_parse_expr::specs::Parsers::many_of, hack_parse_expr::specs::Parsers::many_from))]
@@ -348,7 +505,7 @@ impl<F: Fn(Global, &mut Cursor<'_>, usize) -> Result<Stmt, ParseStop>> Statement
         ensures { Reads (spec.case_read self.now.depth (spec.statement self.now.depth) cursor.old) result cursor.new }
     {
         let at = cursor.token()?.at;
-        let value = self.expression(cursor)?;
+        let value = expression(self.alloc, cursor, self.depth)?;
         cursor.expect(Mark::Colon)?;
         let body = self.statements(cursor)?;
         Ok(Case {
@@ -371,70 +528,6 @@ impl<F: Fn(Global, &mut Cursor<'_>, usize) -> Result<Stmt, ParseStop>> Statement
             value: None,
             body,
         })
-    }
-
-    #[tactic(auto, unfolding(crate::specs::Statements::return_statement))]
-    fn return_statement(&self, cursor: &mut Cursor<'_>) -> Result<Stmt, ParseStop>
-        requires { NestsStatements self.now.depth (F.pre self.now.nested) (F.post self.now.nested) }
-        ensures { Reads (spec.return_statement self.now.depth (spec.statement self.now.depth) cursor.old) result cursor.new }
-    {
-        let at = cursor.token()?.at;
-        let value = expression_if_any(self.alloc, cursor, self.depth)?;
-        cursor.expect(Mark::Semicolon)?;
-        Ok(Stmt::Return { at, value })
-    }
-
-    #[tactic(auto, unfolding(crate::specs::Statements::throw_statement))]
-    fn throw_statement(&self, cursor: &mut Cursor<'_>) -> Result<Stmt, ParseStop>
-        requires { NestsStatements self.now.depth (F.pre self.now.nested) (F.post self.now.nested) }
-        ensures { Reads (spec.throw_statement self.now.depth (spec.statement self.now.depth) cursor.old) result cursor.new }
-    {
-        let at = cursor.token()?.at;
-        let value = self.expression(cursor)?;
-        cursor.expect(Mark::Semicolon)?;
-        Ok(Stmt::Throw { at, value })
-    }
-
-    #[tactic(auto, unfolding(crate::specs::Statements::break_statement))]
-    fn break_statement(&self, cursor: &mut Cursor<'_>) -> Result<Stmt, ParseStop>
-        requires { NestsStatements self.now.depth (F.pre self.now.nested) (F.post self.now.nested) }
-        ensures { Reads (spec.break_statement self.now.depth (spec.statement self.now.depth) cursor.old) result cursor.new }
-    {
-        let at = cursor.token()?.at;
-        cursor.expect(Mark::Semicolon)?;
-        Ok(Stmt::Break { at })
-    }
-
-    #[tactic(auto, unfolding(crate::specs::Statements::continue_statement))]
-    fn continue_statement(&self, cursor: &mut Cursor<'_>) -> Result<Stmt, ParseStop>
-        requires { NestsStatements self.now.depth (F.pre self.now.nested) (F.post self.now.nested) }
-        ensures { Reads (spec.continue_statement self.now.depth (spec.statement self.now.depth) cursor.old) result cursor.new }
-    {
-        let at = cursor.token()?.at;
-        cursor.expect(Mark::Semicolon)?;
-        Ok(Stmt::Continue { at })
-    }
-
-    #[tactic(auto, unfolding(crate::specs::Statements::echo_statement))]
-    fn echo_statement(&self, cursor: &mut Cursor<'_>) -> Result<Stmt, ParseStop>
-        requires { NestsStatements self.now.depth (F.pre self.now.nested) (F.post self.now.nested) }
-        ensures { Reads (spec.echo_statement self.now.depth (spec.statement self.now.depth) cursor.old) result cursor.new }
-    {
-        let at = cursor.token()?.at;
-        let values = expressions1(self.alloc, cursor, self.depth)?;
-        cursor.expect(Mark::Semicolon)?;
-        Ok(Stmt::Echo { at, values })
-    }
-
-    #[tactic(auto, unfolding(crate::specs::Statements::expression_statement))]
-    fn expression_statement(&self, cursor: &mut Cursor<'_>) -> Result<Stmt, ParseStop>
-        requires { NestsStatements self.now.depth (F.pre self.now.nested) (F.post self.now.nested) }
-        ensures { Reads (spec.expression_statement self.now.depth (spec.statement self.now.depth) cursor.old) result cursor.new }
-    {
-        let at = cursor.place()?;
-        let expression = self.expression(cursor)?;
-        cursor.expect(Mark::Semicolon)?;
-        Ok(Stmt::Expression { at, expression })
     }
 
     #[tactic(auto, unfolding(crate::specs::Statements::try_statement))]
@@ -475,14 +568,11 @@ impl<F: Fn(Global, &mut Cursor<'_>, usize) -> Result<Stmt, ParseStop>> Statement
         ensures { Reads (spec.catch self.now.depth (spec.statement self.now.depth) cursor.old) result cursor.new }
     {
         cursor.token()?;
-        cursor.expect(Mark::OpenParen)?;
-        let class = class_type(self.alloc, cursor, self.depth)?;
-        let variable = variable(cursor)?;
-        cursor.expect(Mark::CloseParen)?;
+        let head = catch_head(self.alloc, cursor, self.depth)?;
         let body = self.block(cursor)?;
         Ok(Catch {
-            class,
-            variable,
+            class: head.class,
+            variable: head.variable,
             body,
         })
     }
