@@ -1,0 +1,36 @@
+//! The tests of the other crates: rows of texts and answers that were worked out by hand, and short tests where no text
+//! stands for the values. A row is a line `text ¦ answer` of `src/rows/NAME.rt`, for the crate of that name. There `\n`,
+//! `\t`, `\\` and `\xNN` are bytes, and `\*COUNT«text»` is a text so many times. The crates below have no tests, since a
+//! crate with tests is proved a second time with them.
+#![tactic(auto)]
+
+#[cfg(test)]
+mod base;
+#[cfg(test)]
+mod diagnostics;
+#[cfg(test)]
+mod first;
+#[cfg(test)]
+mod lexer;
+#[cfg(test)]
+mod naming;
+#[cfg(test)]
+mod parse;
+#[cfg(test)]
+mod plain;
+#[cfg(test)]
+mod rows;
+#[cfg(test)]
+mod run;
+#[cfg(test)]
+mod scripts;
+#[cfg(test)]
+mod serve;
+#[cfg(test)]
+mod shallow;
+#[cfg(test)]
+mod streams;
+#[cfg(test)]
+mod texts;
+#[cfg(test)]
+mod types;
