@@ -24,8 +24,8 @@ use Rattle.hack_parse_expr.specs.Symbols.{Mark_, Keyword_}
 use Rattle.hack_parse_expr.specs.Rows.{begins_expression}
 use Rattle.hack_parse_expr.specs.Parsers.{Outcome, Parser, and_then, token, expect, place}
 use Rattle.hack_parse_expr.specs.Types.{named as class_named, optional, container, dict, fields, shape, type_by, type_row_read, written_type}
-use Rattle.hack_parse_expr.specs.Expressions.{nests, expression_at, expressions, expressions1, expression_if_any, postfix}
-use Rattle.hack_parse_stmt.specs.Statements.{variables, block, bracketed, block_statement, empty_statement, otherwise, if_statement, while_statement, do_statement, for_statement, foreach_statement, cases, switch_statement, return_statement, throw_statement, break_statement, continue_statement, echo_statement, expression_statement, catches, finally, try_statement, statement_by, statement_read, statement}
+use Rattle.hack_parse_expr.specs.Expressions.{nests, expression_at, expressions1, expression_if_any}
+use Rattle.hack_parse_stmt.specs.Statements.{variables_closed, value_if_any, for_head, foreach_subject, do_condition, block, bracketed, block_statement, empty_statement, otherwise, if_statement, while_statement, do_statement, for_statement, foreach_statement, case_block, switch_statement, return_statement, throw_statement, break_statement, continue_statement, echo_statement, expression_statement, catches, finally, try_statement, statement_by, statement_read, statement}
 use Rattle.hack_first.specs.declared.unit.Primitive.{Primitive}
 use Rattle.hack_first.specs.Functions.{Value}
 use Rattle.hack_first.specs.FirstUnits.{mark as mark_form, keyword as keyword_form, type_keyword, IsSpelled}
@@ -165,17 +165,22 @@ return_of names depth i mid j end rest l t at (Some x) s v took is some reads en
 -- no other row gives a return
 statement_row_back : (names : List (List ℕ)) (depth : ℕ) (nested : Parser Stmt) (r : Option StatementRow) (i rest : Input) (s : Stmt) (v : Value × Place) → returned_in names (out-Stmt s) ≡ Some v →
     statement_row (next_kind i.left) (second_kind i.left) ≡ r → statement_by (suc depth) nested r i ≡ Ok (s, rest) → ReturnBack names i rest v
-unfolding block_statement empty_statement if_statement while_statement do_statement for_statement foreach_statement switch_statement return_statement throw_statement break_statement continue_statement echo_statement expression_statement try_statement
+unfolding value_if_any block_statement empty_statement if_statement while_statement do_statement for_statement foreach_statement switch_statement return_statement throw_statement break_statement continue_statement echo_statement expression_statement try_statement
 statement_row_back names depth nested None i rest s v some at h = absurd cc
 statement_row_back names depth nested (Some row.Return) i rest s v some at h =
     let d = suc depth in
     let s1 = steps (token i) _ s rest h in
-    let s2 = steps (expression_if_any d (nests d) s1.mid) _ s rest s1.others in
-    let s3 = steps (expect (Mark_ mark.Semicolon) s2.mid) _ s rest s2.others in
+    let s2 = steps (value_if_any d s1.mid) _ s rest s1.others in
+    let s3 = steps (expression_if_any d (nests d) s1.mid) _ s2.value s2.mid s2.first in
+    let s4 = steps (expect (Mark_ mark.Semicolon) s3.mid) _ s2.value s2.mid s3.others in
+    let same : s3.value ≡ s2.value = same_value s3.value s2.value s4.mid s2.mid s4.others in
+    let behind : s4.mid ≡ s2.mid = same_rest s3.value s2.value s4.mid s2.mid s4.others in
+    let whole : ◌≡◌ {A = Outcome Stmt} (Ok (stmt.Return s1.value.at s3.value, s4.mid)) (Ok (s, rest)) =
+        ap (λ x. Ok (stmt.Return s1.value.at x, s4.mid)) same ∙ ap (λ m. Ok (stmt.Return s1.value.at s2.value, m)) behind ∙ s2.others in
     let k = token_takes i s1.value s1.mid s1.first in
     let which : next_kind i.left ≡ Some (kind.Keyword keyword.Return) = return_row (next_kind i.left) (second_kind i.left) at in
     let f = form_of_kind names (kind.Keyword keyword.Return) k.l (ap next_kind (sym k.took.parts) ∙ which) (omega arith) in
-    return_of names depth i s1.mid s2.mid s3.mid rest k.l s3.value s1.value.at s2.value s v k.took f some s2.first s3.first s3.others
+    return_of names depth i s1.mid s3.mid s4.mid rest k.l s4.value s1.value.at s3.value s v k.took f some s3.first s4.first whole
 statement_row_back names depth nested (Some row.Block) i rest s v some at h =
     let P = NoReturn names in let d = suc depth in
     absurd (statement_never names _ s rest v (always_then P (place i) _ (λ t j. always_then P (block d nested j) _ (λ x k. no_return names _ _ (stmt.rolls-Block t x) refl))) some h)
@@ -184,29 +189,28 @@ statement_row_back names depth nested (Some row.Empty) i rest s v some at h =
     absurd (statement_never names _ s rest v (always_then P (token i) _ (λ t j. no_return names _ _ (stmt.rolls-Empty t.at) refl)) some h)
 statement_row_back names depth nested (Some row.If) i rest s v some at h =
     let P = NoReturn names in let d = suc depth in
-    absurd (statement_never names _ s rest v (always_then P (token i) _ (λ t j. always_then P (bracketed d nested j) _ (λ x k. always_then P (nested k) _ (λ y m. always_then P (otherwise d nested m) _ (λ z n.
+    absurd (statement_never names _ s rest v (always_then P (token i) _ (λ t j. always_then P (bracketed d j) _ (λ x k. always_then P (nested k) _ (λ y m. always_then P (otherwise d nested m) _ (λ z n.
     no_return names _ _ (stmt.rolls-If t.at x y z) refl))))) some h)
 statement_row_back names depth nested (Some row.While) i rest s v some at h =
     let P = NoReturn names in let d = suc depth in
-    absurd (statement_never names _ s rest v (always_then P (token i) _ (λ t j. always_then P (bracketed d nested j) _ (λ x k. always_then P (nested k) _ (λ y m.
+    absurd (statement_never names _ s rest v (always_then P (token i) _ (λ t j. always_then P (bracketed d j) _ (λ x k. always_then P (nested k) _ (λ y m.
     no_return names _ _ (stmt.rolls-While t.at x y) refl)))) some h)
 statement_row_back names depth nested (Some row.DoWhile) i rest s v some at h =
     let P = NoReturn names in let d = suc depth in
-    absurd (statement_never names _ s rest v (always_then P (token i) _ (λ t j. always_then P (nested j) _ (λ x k. always_then P (expect (Keyword_ keyword.While) k) _ (λ y m. always_then P (bracketed d nested m) _ (λ z n.
-    always_then P (expect (Mark_ mark.Semicolon) n) _ (λ w o. no_return names _ _ (stmt.rolls-DoWhile t.at x z) refl)))))) some h)
+    absurd (statement_never names _ s rest v (always_then P (token i) _ (λ t j. always_then P (nested j) _ (λ x k. always_then P (do_condition d k) _ (λ z m.
+    no_return names _ _ (stmt.rolls-DoWhile t.at x z) refl)))) some h)
 statement_row_back names depth nested (Some row.For) i rest s v some at h =
     let P = NoReturn names in let d = suc depth in
-    absurd (statement_never names _ s rest v (always_then P (token i) _ (λ t j. always_then P (expect (Mark_ mark.OpenParen) j) _ (λ x k. always_then P (expressions d (nests d) k) _ (λ y m. always_then P (expect (Mark_ mark.Semicolon) m) _ (λ z n.
-    always_then P (expression_if_any d (nests d) n) _ (λ w o. always_then P (expect (Mark_ mark.Semicolon) o) _ (λ u p. always_then P (expressions d (nests d) p) _ (λ a q. always_then P (expect (Mark_ mark.CloseParen) q) _ (λ b r.
-    always_then P (nested r) _ (λ c x1. no_return names _ _ (stmt.rolls-For t.at y w a c) refl)))))))))) some h)
+    absurd (statement_never names _ s rest v (always_then P (token i) _ (λ t j. always_then P (for_head d j) _ (λ x k. always_then P (nested k) _ (λ c m.
+    no_return names _ _ (stmt.rolls-For t.at x.start x.condition x.step c) refl)))) some h)
 statement_row_back names depth nested (Some row.Foreach) i rest s v some at h =
     let P = NoReturn names in let d = suc depth in
-    absurd (statement_never names _ s rest v (always_then P (token i) _ (λ t j. always_then P (expect (Mark_ mark.OpenParen) j) _ (λ x k. always_then P (postfix d (nests d) k) _ (λ y m. always_then P (expect (Keyword_ keyword.As) m) _ (λ z n.
-    always_then P (variables n) _ (λ w o. always_then P (expect (Mark_ mark.CloseParen) o) _ (λ u p. always_then P (nested p) _ (λ a q. no_return names _ _ (stmt.rolls-Foreach t.at y w.0 w.1 a) refl)))))))) some h)
+    absurd (statement_never names _ s rest v (always_then P (token i) _ (λ t j. always_then P (foreach_subject d j) _ (λ y k. always_then P (variables_closed k) _ (λ w m. always_then P (nested m) _ (λ a n.
+    no_return names _ _ (stmt.rolls-Foreach t.at y w.0 w.1 a) refl))))) some h)
 statement_row_back names depth nested (Some row.Switch) i rest s v some at h =
     let P = NoReturn names in let d = suc depth in
-    absurd (statement_never names _ s rest v (always_then P (token i) _ (λ t j. always_then P (bracketed d nested j) _ (λ x k. always_then P (expect (Mark_ mark.OpenBrace) k) _ (λ y m. always_then P (cases d nested m) _ (λ z n.
-    always_then P (expect (Mark_ mark.CloseBrace) n) _ (λ w o. no_return names _ _ (stmt.rolls-Switch t.at x z) refl)))))) some h)
+    absurd (statement_never names _ s rest v (always_then P (token i) _ (λ t j. always_then P (bracketed d j) _ (λ x k. always_then P (case_block d nested k) _ (λ z m.
+    no_return names _ _ (stmt.rolls-Switch t.at x z) refl)))) some h)
 statement_row_back names depth nested (Some row.Throw) i rest s v some at h =
     let P = NoReturn names in let d = suc depth in
     absurd (statement_never names _ s rest v (always_then P (token i) _ (λ t j. always_then P (expression_at d j) _ (λ x k. always_then P (expect (Mark_ mark.Semicolon) k) _ (λ y m.

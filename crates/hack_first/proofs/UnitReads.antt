@@ -28,7 +28,7 @@ use Rattle.hack_parse_expr.specs.Symbols.{Declared}
 use Rattle.hack_parse_expr.specs.Parsers.{token, expect, place, starting, many_from, many_of, list_from, list_of}
 use Rattle.hack_parse_expr.specs.Expressions.{literal_read, key_text, expressions, arguments, behind_name, name, primary, expression_if_any, suffixes, suffix, postfix, type_tests, type_test, tested, operands, unary, further, operations, at_level, product, sum, relation, equality, bit_and, bit_xor, bit_or, logical_and, logical_or, coalesce, conditional, whole, nests}
 use Rattle.hack_parse_expr.specs.Types.{type_row_read, written_type}
-use Rattle.hack_parse_stmt.specs.Statements.{statements, block, return_statement, statement_read, statement}
+use Rattle.hack_parse_stmt.specs.Statements.{statements, block, return_statement, value_if_any, statement_read, statement}
 use Rattle.hack_parse_decl.specs.Declarations.{attribute, attribute_list, attributes, attributes_if_any, type_parameters_if_any, type_parameters, type_parameter_list, type_parameter, variance_if_any, parameter_list, parameter, parameters, result_if_any, signature, function, declared, declaration}
 use Rattle.hack_tree.specs.declared.written_type.WrittenType.TheVariants as written
 use Rattle.hack_tree.specs.declared.written_type.Primitive.TheVariants as primitive
@@ -148,7 +148,7 @@ call_value names t opens closes = record {
 pub statement_of : (i j : Input) (t end : Lexeme) (read rest : List Lexeme) (value : Expr) →
     (expression_if_any 127 (nests 127) (record i { left = read; behind = t.behind }) ≡ Ok (Some value, record j { left = as_kind (kind.Mark mark.Semicolon) end ∷ rest })) →
     statement deepest (record i { left = as_kind (kind.Keyword keyword.Return) t ∷ read }) ≡ Ok (stmt.Return (relative i.start t.at) (Some value), record j { left = rest; behind = end.behind })
-unfolding statement statement_read return_statement expect token
+unfolding statement statement_read return_statement value_if_any expect token
 statement_of i j t end read rest value h = rw h refl
 
 -- a body of one return is read
