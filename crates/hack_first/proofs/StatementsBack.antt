@@ -176,7 +176,7 @@ statement_row_back names depth nested (Some row.Return) i rest s v some at h =
     let same : s3.value ≡ s2.value = same_value s3.value s2.value s4.mid s2.mid s4.others in
     let behind : s4.mid ≡ s2.mid = same_rest s3.value s2.value s4.mid s2.mid s4.others in
     let whole : ◌≡◌ {A = Outcome Stmt} (Ok (stmt.Return s1.value.at s3.value, s4.mid)) (Ok (s, rest)) =
-        ap (λ x. Ok (stmt.Return s1.value.at x, s4.mid)) same ∙ ap (λ m. Ok (stmt.Return s1.value.at s2.value, m)) behind ∙ s2.others in
+    ap (λ x. Ok (stmt.Return s1.value.at x, s4.mid)) same ∙ ap (λ m. Ok (stmt.Return s1.value.at s2.value, m)) behind ∙ s2.others in
     let k = token_takes i s1.value s1.mid s1.first in
     let which : next_kind i.left ≡ Some (kind.Keyword keyword.Return) = return_row (next_kind i.left) (second_kind i.left) at in
     let f = form_of_kind names (kind.Keyword keyword.Return) k.l (ap next_kind (sym k.took.parts) ∙ which) (omega arith) in
