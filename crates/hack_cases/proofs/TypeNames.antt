@@ -2,6 +2,10 @@
 use Rattle.std.proofs.Common.{◌<◌, ◌≤◌, ℕ, Bool as Truth, List, [], ◌∷◌, All, map, sym, ap, subst, ◌∙◌, arith}
 use Rattle.std.proofs.lemmas.List.Elements.{All-append, All-cons, All-head, All-tail}
 use Rattle.std.specs.List.{concat, flat_map}
+use Rattle.std.specs.List.Sorted.{IsStrictlySortedBy}
+use Rattle.std.specs.Cmp.{nat_cmp_is}
+use Rattle.std.specs.declared.cmp.Ordering.TheVariants.{Less}
+use Rattle.hack_types.specs.Rising.{FieldsRise}
 use Rattle.hack_types.specs.TypeText.{names_by, names_in, AreNames}
 use Rattle.hack_types.specs.declared.fields.Field.{Field}
 use Rattle.hack_types.specs.declared.hack_type.HackType.{HackType}
@@ -13,6 +17,15 @@ use Rattle.hack_types.specs.formers.fields.Fields.{on_type}
 -- a field's key is one of so many names, and so are those in its type
 abbrev pub IsField : ℕ → Field HackType → Type 0
 IsField count field = (field.key < count) × AreNames count field.ty
+
+-- how the keys of fields rise
+pub no_fields_rise : (T : Type 0) → FieldsRise {T = T} []
+unfolding IsStrictlySortedBy
+no_fields_rise T = tt
+
+pub two_fields_rise : {T : Type 0} (a b : Field T) → a.key < b.key → FieldsRise (a ∷ b ∷ [])
+unfolding IsStrictlySortedBy
+two_fields_rise a b lt = ((sym (nat_cmp_is a.key b.key Less lt), tt), (tt, tt))
 
 -- names that are added make no difference
 pub more_names : (count more : ℕ) (type : HackType) → count ≤ more → AreNames count type → AreNames more type

@@ -98,7 +98,7 @@ fn union(alloc: Global, count: u32) -> Result<HackType, NoMemory>
 }
 
 // A shape with `zeta`, which may be missing, and `alpha`, or with no field.
-#[tactic(auto, using(crate::proofs::TypeNames::are_names_shape))]
+#[tactic(auto, using(crate::proofs::TypeNames::are_names_shape, crate::proofs::TypeNames::no_fields_rise))]
 fn shape(alloc: Global, some: bool, rest: bool) -> Result<HackType, NoMemory>
     ensures { IfOk result (AreNames 11) }
 {
@@ -110,7 +110,7 @@ fn shape(alloc: Global, some: bool, rest: bool) -> Result<HackType, NoMemory>
     Ok(HackType::Shape { fields, rest })
 }
 
-#[tactic(auto, using(crate::proofs::TypeNames::are_names_float, crate::proofs::TypeNames::are_names_class_param))]
+#[tactic(auto, using(crate::proofs::TypeNames::are_names_float, crate::proofs::TypeNames::are_names_class_param, crate::proofs::TypeNames::two_fields_rise))]
 fn two_fields(alloc: Global) -> Result<Fields<HackType>, NoMemory>
     ensures { IfOk result (λ fields. All (λ field. (field.key < 11) × AreNames 11 field.ty) fields) }
 {

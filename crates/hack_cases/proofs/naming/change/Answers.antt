@@ -11,4 +11,5 @@ gone table file =
     get-remove nat_list_cmp_total table file file ∙ ap (λ r. cond (is_eq r) None (get table file)) (tied_itself nat_list_cmp_total file)
 
 pub add_file-requires : goal.add_file-requires
-add_file-requires c = search (gone)
+add_file-requires c =
+    ap (λ (table : Table). get table c.in-Some.file.now) c.remove_file.ensures ∙ gone c.args.table.now c.in-Some.file.now
