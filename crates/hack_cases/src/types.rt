@@ -7,12 +7,21 @@ use crate::rows::types::DIFFERENT;
 use crate::run::{Table, run_rows};
 use hack_shallow::shallow_of;
 use hack_types::{
-    AliasSig, HackType, Kind, NameId, Names, NoMemory, Shallow, Signature, SymbolId, into_option,
-    option_of,
+    HackType, Kind, NameId, Names, NoMemory, Shallow, SymbolId, into_option, option_of,
 };
 use sqlite_items::Items;
 use std::alloc::Global;
 use std::test::Fail;
+
+// The type of a declaration, where it has one.
+fn type_of(alloc: Global, shallow: &Shallow) -> Result<Option<HackType>, NoMemory> {
+    match shallow {
+        Shallow::Alias(alias) => Ok(Some(alias.body.copy(alloc)?)),
+        Shallow::Function(signature) => Ok(Some(signature.result.copy(alloc)?)),
+        Shallow::Constant(ty) => Ok(Some(ty.copy(alloc)?)),
+        _ => Ok(None),
+    }
+}
 
 // The type of each declaration.
 fn types_of(alloc: Global, text: &[u8]) -> Result<Vec<HackType>, NoMemory> {
@@ -20,16 +29,9 @@ fn types_of(alloc: Global, text: &[u8]) -> Result<Vec<HackType>, NoMemory> {
     let mut types = Vec::new(alloc);
     if let Some(tree) = read(alloc, &mut names, text)? {
         for unit in tree.units.as_slice() {
-            match shallow_of(alloc, unit)? {
-                Shallow::Alias(AliasSig { body, .. }) => types.push(body)?,
-                Shallow::Function(
-                    Signature {
-                        result: returned,
-                        ..
-                    },
-                ) => types.push(returned)?,
-                Shallow::Constant(ty) => types.push(ty)?,
-                _ => {}
+            let shallow = shallow_of(alloc, unit)?;
+            if let Some(ty) = type_of(alloc, &shallow)? {
+                types.push(ty)?;
             }
         }
     }
