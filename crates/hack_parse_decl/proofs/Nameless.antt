@@ -1,5 +1,5 @@
 -- How a run ends doesn't depend on the names that its tokens spell.
-use Rattle.std.proofs.Common.{◌≡◌, ◌≢◌, ℕ, zero, suc, ◌++◌, Bool, true, false, List, [], ◌∷◌, map, Option, None, Some, refl, sym, ap, ◌∙◌, subst, ◌&&◌, nat_le, if◌then◌else◌}
+use Rattle.std.proofs.Common.{◌≡◌, ℕ, zero, suc, Bool, true, false, List, [], ◌∷◌, map, Option, None, Some, refl, sym, ap, ◌∙◌, subst, ◌&&◌, nat_le, if◌then◌else◌}
 use Rattle.hack_types.specs.declared.place.Place.{Place}
 use Rattle.hack_lexer.specs.declared.kind.Mark.TheVariants as mark
 use Rattle.hack_parse_expr.specs.declared.lexeme.Lexeme.{Lexeme}

@@ -16,7 +16,7 @@ use Rattle.hack_parse_expr.specs.Parsers.{at_front}
 use Rattle.hack_parse_expr.specs.Run.{Stands, Fails}
 use Rattle.hack_parse_expr.proofs.Runs.{stands_once, fails_once, stands_or_fails}
 use Rattle.hack_parse_decl.specs.Lexemes.{spelled, IsIdOf, IsNamed, IsLexeme, AreLexemes, with_spelled, between, with_names, Extends}
-use Rattle.hack_parse_decl.specs.Files.{end_of, unit_of, IsInput, IsTree, IsFileTree, IsLeftOver, IsGrammarFault, IsGrammarRefused, IsFileFault, IsFileRefused}
+use Rattle.hack_parse_decl.specs.Files.{end_of, unit_of, IsInput, IsTree, IsFileTree, IsLeftOver, IsFileFault, IsFileRefused}
 use Rattle.hack_parse_decl.proofs.Lexed.{lexemes_stay}
 use Rattle.hack_parse_decl.proofs.Nameless.{nameless, nameless_input, refusal_same, stands_nameless, fails_nameless}
 

@@ -24,7 +24,7 @@ use Rattle.hack_parse_expr.specs.Types.{written_type, named}
 use Rattle.hack_parse_expr.specs.Expressions.{nests, expressions, expressions1, expression_if_any, postfix}
 use Rattle.hack_parse_expr.proofs.Follows.{Follows, FollowsOne, RowFollows, first_follows, rule_follows, row_by, row_nests_by, row_too_deep, no_row, expect_follows, place_follows}
 use Rattle.hack_parse_expr.proofs.ListsFollow.{Shrinks, many_follows, refuse_shrinks, same_follows, at_terminal_follows}
-use Rattle.hack_parse_expr.proofs.Pieces.{Piece, Pieces, Turn, turn, turn_follows, turn_shrinks, done, ◌and◌, a_token, the, the_made, a_parser, the_symbol, taking, behind_token_follows, seen_follows, optional_seen, many_of_same, expected, shrinks_nested}
+use Rattle.hack_parse_expr.proofs.Pieces.{Piece, Turn, turn, turn_follows, turn_shrinks, done, ◌and◌, a_token, the, the_made, a_parser, the_symbol, taking, behind_token_follows, seen_follows, optional_seen, many_of_same, expected, shrinks_nested}
 use Rattle.hack_parse_expr.proofs.TypesFollow.{if_row, named_follows, type_follows}
 use Rattle.hack_parse_expr.proofs.OperandsFollow.{and_then_twice}
 use Rattle.hack_parse_expr.proofs.ExpressionsFollow.{expression_follows, may_stand_follows, with_commas_follow, one_or_more_follow, operand_follows}
