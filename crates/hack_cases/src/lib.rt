@@ -9,9 +9,13 @@ mod base;
 #[cfg(test)]
 mod diagnostics;
 #[cfg(test)]
+mod first;
+#[cfg(test)]
 mod lexer;
 #[cfg(test)]
 mod naming;
+#[cfg(test)]
+mod parse;
 #[cfg(test)]
 mod plain;
 #[cfg(test)]
@@ -21,6 +25,12 @@ mod run;
 #[cfg(test)]
 mod scripts;
 #[cfg(test)]
+mod serve;
+#[cfg(test)]
+mod shallow;
+#[cfg(test)]
 mod streams;
 #[cfg(test)]
 mod texts;
+#[cfg(test)]
+mod types;

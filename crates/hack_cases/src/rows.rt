@@ -1,7 +1,12 @@
 // The rows, one file for each crate.
 
 pub(crate) mod diag;
+pub(crate) mod first;
 pub(crate) mod lexer;
 pub(crate) mod naming;
+pub(crate) mod parse_decl;
 pub(crate) mod scripts;
+pub(crate) mod serve;
+pub(crate) mod shallow;
+pub(crate) mod types;
 pub(crate) mod words;

@@ -1,7 +1,7 @@
 // The tables of rows, and how they are tried.
 
 use crate::plain::{plain, shown};
-use crate::{base, diagnostics, lexer, naming, rows, scripts};
+use crate::{base, diagnostics, first, lexer, naming, parse, rows, scripts, serve, shallow, types};
 use hack_types::NoMemory;
 use std::alloc::Global;
 
@@ -10,6 +10,9 @@ use std::alloc::Global;
 pub(crate) enum Table {
     Words,
     Lists,
+    Names,
+    Options,
+    Nodes,
     Written,
     Ordered,
     Naming,
@@ -17,6 +20,13 @@ pub(crate) enum Table {
     Limits,
     Faults,
     Tokens,
+    Files,
+    Long,
+    Trees,
+    Signatures,
+    Units,
+    Served,
+    Stopped,
 }
 
 impl Table {
@@ -24,6 +34,9 @@ impl Table {
         match self {
             Table::Words => rows::words::WORDS,
             Table::Lists => rows::words::LISTS,
+            Table::Names => rows::types::NAMES,
+            Table::Options => rows::types::OPTIONS,
+            Table::Nodes => rows::types::NODES,
             Table::Written => rows::diag::WRITTEN,
             Table::Ordered => rows::diag::ORDERED,
             Table::Naming => rows::naming::STEPS,
@@ -31,6 +44,13 @@ impl Table {
             Table::Limits => rows::scripts::LIMITS,
             Table::Faults => rows::scripts::FAULTS,
             Table::Tokens => rows::lexer::TOKENS,
+            Table::Files => rows::parse_decl::FAULTS,
+            Table::Long => rows::parse_decl::LONG,
+            Table::Trees => rows::parse_decl::TREES,
+            Table::Signatures => rows::shallow::SIGNATURES,
+            Table::Units => rows::first::UNITS,
+            Table::Served => rows::serve::SERVED,
+            Table::Stopped => rows::serve::STOPPED,
         }
     }
 
@@ -38,6 +58,9 @@ impl Table {
         match self {
             Table::Words => base::value(alloc, text),
             Table::Lists => base::listed(alloc, text),
+            Table::Names => types::interned(alloc, text),
+            Table::Options => types::optional(alloc, text),
+            Table::Nodes => types::nodes(alloc, text),
             Table::Written => diagnostics::written(alloc, text),
             Table::Ordered => diagnostics::ordered(alloc, text),
             Table::Naming => naming::counted(alloc, text),
@@ -45,6 +68,12 @@ impl Table {
             Table::Limits => scripts::end_of(alloc, text),
             Table::Faults => scripts::with_fault(alloc, text),
             Table::Tokens => lexer::cut(alloc, text),
+            Table::Files | Table::Long => parse::counted(alloc, text),
+            Table::Trees => parse::tree(alloc, text),
+            Table::Signatures => shallow::signatures(alloc, text),
+            Table::Units => first::units(alloc, text),
+            Table::Served => serve::served(alloc, text),
+            Table::Stopped => serve::stopped(alloc, text),
         }
     }
 }
