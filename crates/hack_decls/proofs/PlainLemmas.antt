@@ -1,19 +1,17 @@
 -- What it does to a plain map that a symbol is noted or declared, and what a lookup answers then.
-use Rattle.std.proofs.Common.{◌≡◌, ◌≢◌, ◌⊎◌, Bool, true, false, cond, Option, Some, Result, Ok, Err, IsTrue, refl, sym, ap, subst, ◌∙◌, inl, inr, arith}
+use Rattle.std.proofs.Common.{◌≡◌, ◌≢◌, ◌⊎◌, Bool, true, false, cond, Option, Some, Ok, IsTrue, refl, sym, ap, subst, ◌∙◌, inl, inr, arith}
 use Rattle.std.specs.BTreeMap as tree
 use Rattle.std.specs.BTreeSet as sorted
 use Rattle.std.specs.FinMap.{IsAntisymmetric, nat_cmp-IsAntisymmetric}
-use Rattle.std.specs.Ordering.{is_eq, nat_cmp, ordering_then}
+use Rattle.std.specs.Ordering.{is_eq, ordering_then}
 use Rattle.std.specs.declared.cmp.Ordering.{Ordering}
 use Rattle.std.specs.declared.cmp.Ordering.TheVariants.{Less, Equal, Greater}
-use Rattle.hack_types.specs.declared.ids.Kind.{Kind}
 use Rattle.hack_types.specs.declared.ids.Kind.TheVariants.{Class, Func, Const}
 use Rattle.hack_types.specs.declared.ids.SymbolId.{SymbolId}
 use Rattle.hack_decls.specs.AskLaws.{picked}
 use Rattle.hack_decls.specs.DeclState.{DeclState, Map}
 use Rattle.hack_decls.specs.declared.folded.Folded.{Folded}
 use Rattle.hack_decls.specs.declared.map_decls.MapDecls.{MapDecls}
-use Rattle.hack_decls.specs.declared.stop.DeclStop.{DeclStop}
 use Rattle.hack_decls.specs.Looks.{Looks}
 use Rattle.hack_decls.specs.PlainMap.{Declares, kind_order, symbol_order, map_state}
 

@@ -1,13 +1,13 @@
 -- How clauses of calls that ask are put together.
-use Rattle.std.proofs.Common.{◌≡◌, ◌≤◌, ◌⊎◌, ℕ, Bool, Result, Ok, Err, IsTrue, IfOk, IfErr, IfSome, Contains, Option, refl, sym, ap, subst, ◌∙◌, arith, inl, inr}
+use Rattle.std.proofs.Common.{◌≡◌, ◌⊎◌, ℕ, Bool, Result, Ok, Err, IsTrue, IfSome, Option, refl, sym, ap, subst, ◌∙◌, arith, inl, inr}
 use Rattle.hack_types.specs.declared.ids.SymbolId.{SymbolId}
 use Rattle.hack_decls.specs.declared.folded.Folded.{Folded}
 use Rattle.hack_decls.specs.declared.stop.DeclStop.{DeclStop}
 use Rattle.hack_decls.specs.declared.stop.DeclStop.TheVariants as stop
 use Rattle.hack_decls.specs.DeclState.{DeclState, Map, Symbols}
-use Rattle.hack_decls.specs.Looks.{HasCause, IsNoted, Keeps, Looks}
+use Rattle.hack_decls.specs.Looks.{HasCause, Keeps, Looks}
 use Rattle.hack_decls.specs.Names.{FoldedIn}
-use Rattle.hack_decls.specs.Asks.{Agree, Asks, NamesOnly, Within}
+use Rattle.hack_decls.specs.Asks.{Asks, Within}
 
 -- ---- inside
 

@@ -1,12 +1,11 @@
 -- What a call does that asks for declarations: its answer is right for every map that has what it noted, and it notes only what is
 -- named by what it was given or by a declaration that was noted before. All checks have this one clause.
 use Rattle.std.specs.Prelude.{◌≡◌, ◌↔◌, Bool, Result, IsTrue, IfOk, IfSome}
-use Rattle.hack_types.specs.declared.hack_type.HackType.{HackType}
 use Rattle.hack_types.specs.declared.ids.SymbolId.{SymbolId}
 use Rattle.hack_decls.specs.declared.stop.DeclStop.{DeclStop}
 use Rattle.hack_decls.specs.DeclState.{DeclState, Map, Symbols}
 use Rattle.hack_decls.specs.Looks.{Keeps}
-use Rattle.hack_decls.specs.Names.{FoldedIn, TypeIn}
+use Rattle.hack_decls.specs.Names.{FoldedIn}
 
 -- the two maps have the same under each of these symbols
 abbrev pub Agree : Symbols → Map → Map → Type 0

@@ -1,5 +1,5 @@
 -- What a `Decls` means: the declarations that it answers from, and what it keeps of the questions.
-use Rattle.std.specs.Prelude.{◌≡◌, ℕ, Bool, Option, List}
+use Rattle.std.specs.Prelude.{ℕ, Bool, Option, List}
 use Rattle.hack_types.specs.declared.ids.SymbolId.{SymbolId}
 use Rattle.hack_decls.specs.declared.folded.Folded.{Folded}
 

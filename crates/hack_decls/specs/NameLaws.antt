@@ -1,6 +1,6 @@
 -- What is in a type that names only symbols of a set, and what is answered of a declaration that does.
-use Rattle.std.proofs.Common.{◌≡◌, ◌<◌, ◌==◌, ℕ, Bool, true, false, cond, Option, Some, None, IfSome, IsTrue, List, [], ◌∷◌, ◌++◌, All, map, sym, ap, subst, ◌∙◌, arith}
-use Rattle.std.proofs.lemmas.List.Elements.{All-append, All-cons, All-head, All-tail}
+use Rattle.std.proofs.Common.{◌==◌, ℕ, Bool, true, false, cond, Option, Some, None, IfSome, IsTrue, List, [], ◌∷◌, ◌++◌, All, map, sym, ap, subst, ◌∙◌, arith}
+use Rattle.std.proofs.lemmas.List.Elements.{All-cons, All-head, All-tail}
 use Rattle.std.specs.List.{find, flat_map}
 use Rattle.hack_types.specs.declared.hack_type.HackType.{HackType}
 use Rattle.hack_types.specs.declared.hack_type.HackType.TheOpen.{HackType-F}

@@ -7,13 +7,10 @@ use Rattle.hack_types.specs.declared.hack_type.HackType.TheFolds.{fold-HackType}
 use Rattle.hack_types.specs.declared.hack_type.HackType.TheVariants as type
 use Rattle.hack_types.specs.declared.ids.Kind.TheVariants.{Class}
 use Rattle.hack_types.specs.declared.ids.SymbolId.{SymbolId}
-use Rattle.hack_types.specs.declared.shallow.AliasSig.{AliasSig}
-use Rattle.hack_types.specs.declared.shallow.Member.{Member}
 use Rattle.hack_types.specs.declared.shallow.MemberKind.{MemberKind}
 use Rattle.hack_types.specs.declared.shallow.MemberKind.TheVariants as kind
 use Rattle.hack_types.specs.declared.signature.Signature.{Signature}
 use Rattle.hack_types.specs.declared.signature.TypeParam.{TypeParam}
-use Rattle.hack_decls.specs.declared.folded.Ancestor.{Ancestor}
 use Rattle.hack_decls.specs.declared.folded.ClassFolded.{ClassFolded}
 use Rattle.hack_decls.specs.declared.folded.Folded.{Folded}
 use Rattle.hack_decls.specs.declared.folded.Folded.TheVariants as folded

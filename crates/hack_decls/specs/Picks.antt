@@ -1,8 +1,7 @@
 -- What the narrow lookups pick from a folded declaration.
-use Rattle.std.specs.Prelude.{ℕ, ◌==◌, ◌&&◌, Bool, Option, Some, None, List}
+use Rattle.std.specs.Prelude.{ℕ, ◌==◌, ◌&&◌, Bool, Option, Some, None}
 use Rattle.std.specs.List.{find}
 use Rattle.hack_types.specs.MembersRise.{kind_rank}
-use Rattle.hack_types.specs.declared.hack_type.HackType.{HackType}
 use Rattle.hack_types.specs.declared.shallow.Member.{Member}
 use Rattle.hack_decls.specs.declared.folded.Ancestor.{Ancestor}
 use Rattle.hack_decls.specs.declared.folded.ClassFolded.{ClassFolded}

@@ -1,5 +1,5 @@
 -- What a `MapDecls` stands for, and what putting a declaration does to it.
-use Rattle.std.specs.Prelude.{◌≡◌, ◌≢◌, Bool, true, Some, []}
+use Rattle.std.specs.Prelude.{◌≡◌, ◌≢◌, true, Some, []}
 use Rattle.std.specs.BTreeMap as tree
 use Rattle.std.specs.BTreeSet as sorted
 use Rattle.std.specs.declared.cmp.Ordering.{Ordering}
