@@ -11,6 +11,8 @@ mod diagnostics;
 #[cfg(test)]
 mod first;
 #[cfg(test)]
+mod folding;
+#[cfg(test)]
 mod lexer;
 #[cfg(test)]
 mod naming;

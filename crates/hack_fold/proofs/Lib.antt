@@ -1,0 +1,12 @@
+pub mod AncestorLemmas
+pub mod Firsts
+pub mod FoldLaw
+pub mod Folding
+pub mod Gather
+pub mod InheritLemmas
+pub mod LawsHold
+pub mod MemberLaws
+pub mod MergeLemmas
+pub mod PutLemmas
+pub mod Tests
+pub mod WalkLemmas
