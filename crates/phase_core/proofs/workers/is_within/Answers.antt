@@ -1,0 +1,7 @@
+use Rattle.phase_core.proofs.Asking.{denied}
+use Rattle.phase_core.specs.Workers.{IsMentioned}
+use Rattle.phase_core.proofs.Deciding.{last_of_three}
+use Rattle.phase_core.proofs.workers.is_within.Goals as goal
+
+pub returns : goal.returns
+returns c = last_of_three c.is_mentioned.result (IsMentioned c.args.known.now c.args.to.now) (denied c.same.ensures c.if-same.false) (denied c.names.ensures c.if-names.false) c.is_mentioned.ensures

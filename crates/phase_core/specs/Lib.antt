@@ -1,0 +1,16 @@
+pub mod Orders
+pub mod EdgeOrder
+pub mod World
+pub mod Closures
+pub mod Images
+pub mod Edges
+pub mod States
+pub mod Edits
+pub mod Phases
+pub mod Workers
+pub mod Steps
+pub mod Sound
+pub mod Inside
+pub mod Reached
+pub mod Picked
+pub mod InsideEdits
