@@ -11,8 +11,6 @@ mod diagnostics;
 #[cfg(test)]
 mod first;
 #[cfg(test)]
-mod folding;
-#[cfg(test)]
 mod lexer;
 #[cfg(test)]
 mod naming;

@@ -2,7 +2,6 @@
 
 pub(crate) mod diag;
 pub(crate) mod first;
-pub(crate) mod folding;
 pub(crate) mod lexer;
 pub(crate) mod naming;
 pub(crate) mod parse_decl;

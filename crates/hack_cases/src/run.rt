@@ -1,9 +1,7 @@
 // The tables of rows, and how they are tried.
 
 use crate::plain::{plain, shown};
-use crate::{
-    base, diagnostics, first, folding, lexer, naming, parse, rows, scripts, serve, shallow, types,
-};
+use crate::{base, diagnostics, first, lexer, naming, parse, rows, scripts, serve, shallow, types};
 use hack_types::NoMemory;
 use std::alloc::Global;
 
@@ -26,8 +24,6 @@ pub(crate) enum Table {
     Long,
     Trees,
     Signatures,
-    Folded,
-    Lines,
     Units,
     Served,
     Stopped,
@@ -52,8 +48,6 @@ impl Table {
             Table::Long => rows::parse_decl::LONG,
             Table::Trees => rows::parse_decl::TREES,
             Table::Signatures => rows::shallow::SIGNATURES,
-            Table::Folded => rows::folding::FOLDED,
-            Table::Lines => rows::folding::LINES,
             Table::Units => rows::first::UNITS,
             Table::Served => rows::serve::SERVED,
             Table::Stopped => rows::serve::STOPPED,
@@ -77,8 +71,6 @@ impl Table {
             Table::Files | Table::Long => parse::counted(alloc, text),
             Table::Trees => parse::tree(alloc, text),
             Table::Signatures => shallow::signatures(alloc, text),
-            Table::Folded => folding::last_folded(alloc, text),
-            Table::Lines => folding::last_line(alloc, text),
             Table::Units => first::units(alloc, text),
             Table::Served => serve::served(alloc, text),
             Table::Stopped => serve::stopped(alloc, text),

@@ -5,7 +5,6 @@
 
 mod declaration;
 mod expression;
-mod folded;
 mod out;
 mod shallow;
 mod statement;
@@ -13,6 +12,5 @@ mod words;
 mod written;
 
 pub use declaration::{show_tree, show_unit};
-pub use folded::show_folded;
 pub use out::Out;
 pub use shallow::{show_shallow, show_type};

@@ -1,17 +1,27 @@
 // Signatures.
 
 use crate::{Out, words};
-use hack_types::{
-    AliasSig, ClassSig, EnumSig, Fields, HackType, Member, MemberKind, Shallow, Signature,
-    TypeParam,
-};
+use hack_types::{ClassSig, Fields, HackType, Member, MemberKind, Shallow, Signature, TypeParam};
 
 /// Adds the signature of a declaration.
 pub fn show_shallow(out: &mut Out<'_>, shallow: &Shallow) {
     match shallow {
         Shallow::ClassLike(class) => class_like(out, class),
-        Shallow::Enum(sig) => enumeration(out, sig),
-        Shallow::Alias(sig) => alias(out, sig),
+        Shallow::Enum(sig) => {
+            out.open("enum");
+            show_type(out, &sig.base);
+            if sig.bounded {
+                out.word("bounded");
+            }
+            for case in sig.cases.as_slice() {
+                out.name(*case);
+            }
+        }
+        Shallow::Alias(sig) => {
+            out.open("alias");
+            type_params(out, sig.type_params.as_slice());
+            show_type(out, &sig.body);
+        }
         Shallow::Function(sig) => {
             out.open("function");
             signature(out, sig);
@@ -22,25 +32,6 @@ pub fn show_shallow(out: &mut Out<'_>, shallow: &Shallow) {
         }
     }
     out.close();
-}
-
-// Begins an enum.
-pub(crate) fn enumeration(out: &mut Out<'_>, sig: &EnumSig) {
-    out.open("enum");
-    show_type(out, &sig.base);
-    if sig.bounded {
-        out.word("bounded");
-    }
-    for case in sig.cases.as_slice() {
-        out.name(*case);
-    }
-}
-
-// Begins an alias.
-pub(crate) fn alias(out: &mut Out<'_>, sig: &AliasSig) {
-    out.open("alias");
-    type_params(out, sig.type_params.as_slice());
-    show_type(out, &sig.body);
 }
 
 // Begins a class, an interface or a trait.
@@ -67,7 +58,7 @@ fn types_behind(out: &mut Out<'_>, word: &str, types: &[HackType]) {
     out.close();
 }
 
-pub(crate) fn type_params(out: &mut Out<'_>, all: &[TypeParam]) {
+fn type_params(out: &mut Out<'_>, all: &[TypeParam]) {
     for one in all {
         out.open("type");
         out.word(words::varying(one.variance));
@@ -79,7 +70,7 @@ pub(crate) fn type_params(out: &mut Out<'_>, all: &[TypeParam]) {
 }
 
 // A signature without the node around it.
-pub(crate) fn signature(out: &mut Out<'_>, sig: &Signature) {
+fn signature(out: &mut Out<'_>, sig: &Signature) {
     type_params(out, sig.type_params.as_slice());
     for one in sig.params.as_slice() {
         out.open(if one.optional { "optional" } else { "param" });
@@ -89,7 +80,7 @@ pub(crate) fn signature(out: &mut Out<'_>, sig: &Signature) {
     show_type(out, &sig.result);
 }
 
-pub(crate) fn member(out: &mut Out<'_>, shown: &Member) {
+fn member(out: &mut Out<'_>, shown: &Member) {
     let word = match &shown.kind {
         MemberKind::Constant(_) => "constant",
         MemberKind::Property(_) => "property",
@@ -188,7 +179,7 @@ fn node(out: &mut Out<'_>, ty: &HackType) {
 }
 
 #[cycle(types)]
-pub(crate) fn show_types(out: &mut Out<'_>, types: &[HackType]) {
+fn show_types(out: &mut Out<'_>, types: &[HackType]) {
     for ty in types {
         show_type(out, ty);
     }
