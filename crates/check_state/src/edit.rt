@@ -5,7 +5,7 @@ ghost use Rattle.check_state.specs.declared.edit.EditStop.TheVariants.{NoMemory 
 use hack_types::NoMemory;
 
 /// A change of one file.
-#[derive(Debug, Drop)]
+#[derive(Drop)]
 pub enum Edit {
     /// The file of this name has these bytes from now on.
     Put { name: Vec<u8>, bytes: Vec<u8> },

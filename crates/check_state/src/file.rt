@@ -1,5 +1,5 @@
 // One file as it is kept: its tree or its fault, and the heads of its declarations.
-ghost use Rattle.std.specs.Prelude.{◌≡◌, ◌≤◌, ◌+◌, ◌-◌, ◌*◌, ◌^◌, None, IfOk, OnOk, length};
+ghost use Rattle.std.specs.Prelude.{◌≡◌, ◌≤◌, ◌+◌, ◌*◌, None, IfOk, OnOk, length};
 ghost use Rattle.std.specs.FinMap.{get};
 ghost use Rattle.hack_parse_decl.specs.Lexemes.{Extends};
 ghost use Rattle.hack_parse_decl.specs.Room.{most_bytes, HasRoom};

@@ -34,7 +34,8 @@ impl State {
         file: &File,
         list: &mut Vec<FileDiag>,
     ) -> Result<(), NoMemory>
-        ensures { OnOk result (list.new.items ≡ list.old.items ++ parsed_findings self.now name.now file.now.parsed) }
+        ensures { OnOk result (list.new.items ≡ list.old.items
+            ++ parsed_findings self.now name.now file.now.parsed) }
     {
         match &file.parsed {
             Parsed::Tree(tree) => self.add_in_units(alloc, name, tree.units.as_slice(), list),
@@ -55,7 +56,8 @@ impl State {
         units: &[Unit],
         list: &mut Vec<FileDiag>,
     ) -> Result<(), NoMemory>
-        ensures { OnOk result (list.new.items ≡ list.old.items ++ unit_findings self.now name.now 0 units.now) }
+        ensures { OnOk result (list.new.items ≡ list.old.items
+            ++ unit_findings self.now name.now 0 units.now) }
     {
         for index in 0..units.len() {
             if let Some(diag) = self.finding_at(alloc, name, index, &units[index])? {
@@ -74,7 +76,8 @@ impl State {
         index: usize,
         unit: &Unit,
     ) -> Result<Option<Diag>, NoMemory>
-        ensures { IfOk result (λ found. found ≡ first_finding self.now name.now index (first_in unit.now.start unit.now.tree)) }
+        ensures { IfOk result (λ found. found
+            ≡ first_finding self.now name.now index (first_in unit.now.start unit.now.tree)) }
     {
         match first_unit(unit) {
             Some(first) if self.counts(name, index, first.name) => self.finding(alloc, &first),
@@ -84,7 +87,8 @@ impl State {
 
     // Whether the function of this name that counts is that at this index of the file.
     fn counts(&self, name: &Bytes, index: usize, function: NameId) -> bool
-        ensures { result ≡ is_there name.now index (winner self.now.table (function_symbol function)) }
+        ensures { result
+            ≡ is_there name.now index (winner self.now.table (function_symbol function)) }
     {
         let symbol = SymbolId {
             kind: Kind::Func,
@@ -98,7 +102,8 @@ impl State {
 
     // The finding in a unit that counts.
     fn finding(&self, alloc: Global, unit: &FirstUnit) -> Result<Option<Diag>, NoMemory>
-        ensures { IfOk result (λ found. found ≡ finding_for self.now.names unit.now (type_found self.now unit.now.returned)) }
+        ensures { IfOk result (λ found. found
+            ≡ finding_for self.now.names unit.now (type_found self.now unit.now.returned)) }
     {
         match self.type_found(alloc, unit.returned)? {
             None => Ok(Some(unbound(alloc, &self.names, unit)?)),
@@ -137,7 +142,8 @@ impl State {
 
     // Adds what is said of the declarations that don't count.
     fn add_taken(&self, alloc: Global, list: &mut Vec<FileDiag>) -> Result<(), NoMemory>
-        ensures { OnOk result (list.new.items ≡ list.old.items ++ taken_findings self.now.names (losers self.now.table)) }
+        ensures { OnOk result (list.new.items ≡ list.old.items
+            ++ taken_findings self.now.names (losers self.now.table)) }
     {
         for unit in self.table.losers(alloc)? {
             // the builtin text is no file of the script

@@ -1,5 +1,5 @@
 // The current files.
-ghost use Rattle.std.specs.Prelude.{◌≡◌, ◌≢◌, ◌≤◌, ◌+◌, ◌-◌, ◌*◌, ◌^◌, ℕ, List, [], None, IfOk, IfErr, OnOk, MatchBool, length};
+ghost use Rattle.std.specs.Prelude.{◌≡◌, ◌≢◌, ◌≤◌, ◌+◌, ◌*◌, ℕ, List, [], None, IfOk, IfErr, OnOk, MatchBool, length};
 ghost use Rattle.std.specs.FinMap.{get, insert, remove};
 ghost use Rattle.hack_base.specs.Files.{Files, Put, Remove, after, count, text};
 ghost use Rattle.check_state.specs.declared.edit.EditStop.TheVariants.{NoMemory as NoMemoryStop};
@@ -68,7 +68,8 @@ impl State {
         ensures edited { OnOk result (StandsAfter self.old self.new (edit_of edit)) }
         ensures refused { IfErr result (Refuses self.old (edit_of edit)) }
         ensures kept { IfErr result (λ stop. stop ≢ NoMemoryStop → StandsStill self.old self.new) }
-        ensures names { 2 * name_count self.new ≤ 2 * name_count self.old + twice_names (edit_of edit) }
+        ensures names { 2 * name_count self.new
+            ≤ 2 * name_count self.old + twice_names (edit_of edit) }
     {
         match edit {
             Edit::Put { name, bytes } => self.put(alloc, Bytes::from_vec(name), &bytes),
@@ -174,7 +175,8 @@ impl State {
         ensures added { OnOk result ((files : Files) (body : List ℕ)
             → Stands self.old files → name ≢ [] → get files name ≡ None
             → IsRead self.old.names body file
-            → count (insert files name body) ≤ most_files → text (insert files name body) ≤ most_text
+            → count (insert files name body) ≤ most_files
+            → text (insert files name body) ≤ most_text
             → Stands self.new (insert files name body)) }
         ensures names { self.new.names ≡ self.old.names }
     {

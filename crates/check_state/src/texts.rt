@@ -59,7 +59,8 @@ pub(crate) fn mismatch(alloc: Global, unit: &FirstUnit, found: Primitive) -> Res
 
 /// 4002: no file declares the called function.
 pub(crate) fn unbound(alloc: Global, names: &Names, unit: &FirstUnit) -> Result<Diag, NoMemory>
-    ensures { IfOk result (λ diag. diag ≡ unbound (function_of names.now unit.now) (called names.now unit.now.returned)) }
+    ensures { IfOk result (λ diag. diag
+        ≡ unbound (function_of names.now unit.now) (called names.now unit.now.returned)) }
 {
     let mut text = Vec::from_slice(alloc, b"unbound function ")?;
     text.extend_from_slice(called(names, unit.returned))?;

@@ -3,7 +3,7 @@
 use hack_types::{NameId, Place};
 
 /// A type that a first unit may name (docs/language.md, First units).
-#[derive(Clone, Copy, Debug, PartialEq, Eq)]
+#[derive(Clone, Copy, PartialEq, Eq)]
 pub enum Primitive {
     /// `int`.
     Int,
@@ -12,7 +12,7 @@ pub enum Primitive {
 }
 
 /// What a first unit returns (docs/language.md, First units).
-#[derive(Clone, Copy, Debug, PartialEq, Eq)]
+#[derive(Clone, Copy, PartialEq, Eq)]
 pub enum Returned {
     /// A literal of this type.
     Literal(Primitive),
@@ -21,7 +21,7 @@ pub enum Returned {
 }
 
 /// A first unit: a function without parameters whose body is one return (docs/language.md, First units).
-#[derive(Clone, Copy, Debug, PartialEq, Eq)]
+#[derive(Clone, Copy, PartialEq, Eq)]
 pub struct FirstUnit {
     /// The function's name.
     pub name: NameId,

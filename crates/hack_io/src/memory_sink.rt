@@ -6,7 +6,7 @@ use crate::{NoMemory, Sink, WriteFault};
 use std::alloc::Global;
 
 /// A sink that holds what is written to it, up to a given number of bytes, some of whose pushes fail.
-#[derive(Debug, Drop)]
+#[derive(Drop)]
 pub struct MemorySink {
     bytes: Vec<u8>,
     room: usize,

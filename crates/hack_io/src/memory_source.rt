@@ -5,7 +5,7 @@ use crate::numbers::stands_in;
 use crate::{ReadFault, Source};
 
 /// A source of the bytes of a vector, in pieces of a given length, some of whose pulls fail.
-#[derive(Debug, Drop)]
+#[derive(Drop)]
 pub struct MemorySource {
     bytes: Vec<u8>,
     at: usize,

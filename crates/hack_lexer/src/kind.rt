@@ -4,7 +4,7 @@ ghost use Rattle.hack_lexer.specs.Kinds.{number_of_mark, number_of_keyword, sort
 ghost use Rattle.hack_lexer.specs.declared.kind.TokenKind.TheVariants as kinds;
 
 /// A mark.
-#[derive(Clone, Copy, Debug, PartialEq, Eq)]
+#[derive(Clone, Copy, PartialEq, Eq)]
 pub enum Mark {
     /// `{`
     OpenBrace,
@@ -119,7 +119,7 @@ pub enum Mark {
 }
 
 /// A keyword.
-#[derive(Clone, Copy, Debug, PartialEq, Eq)]
+#[derive(Clone, Copy, PartialEq, Eq)]
 pub enum Keyword {
     /// `abstract`
     Abstract,
@@ -242,7 +242,7 @@ pub enum Keyword {
 }
 
 /// What a token is.
-#[derive(Clone, Copy, Debug, PartialEq, Eq)]
+#[derive(Clone, Copy, PartialEq, Eq)]
 pub enum TokenKind {
     /// A word that is no keyword.
     Name,

@@ -5,7 +5,7 @@ ghost use Rattle.hack_lexer.specs.Bytes.{is_digit, is_octal, is_binary, is_hexad
 ghost use Rattle.hack_lexer.specs.Scan.{is_in};
 
 /// A class of bytes.
-#[derive(Clone, Copy, Debug, PartialEq, Eq)]
+#[derive(Clone, Copy, PartialEq, Eq)]
 pub(crate) enum Class {
     Digit,
     Octal,

@@ -13,7 +13,7 @@ use crate::text::{string_len, variable_len, word_len};
 use case_table::Cases;
 
 /// A token that stands at the front.
-#[derive(Clone, Copy, Debug)]
+#[derive(Clone, Copy)]
 pub(crate) struct Found {
     pub(crate) sort: u16,
     pub(crate) len: usize,

@@ -5,7 +5,7 @@ use crate::kind::kind_of;
 use hack_types::Place;
 
 /// A token of a file: where it stands, and what it is (docs/language.md, Tokens).
-#[derive(Clone, Copy, Debug, PartialEq, Eq)]
+#[derive(Clone, Copy, PartialEq, Eq)]
 pub struct Token {
     /// 0 for a name, 1 for a variable, 2 for `$this`, 3 for an int, 4 for a float, 5 for a string that is no key string,
     /// 6 for a key string, then the marks from 7 on and the keywords from 62 on, in the order of the page.
@@ -29,7 +29,7 @@ impl Token {
 }
 
 /// Why bytes have no tokens.
-#[derive(Clone, Copy, Debug, PartialEq, Eq)]
+#[derive(Clone, Copy, PartialEq, Eq)]
 pub enum LexStop {
     /// The first fault of the bytes: 1001 where no token begins or a comment or a string isn't closed, 1003 for an int
     /// above 2^63 - 1.

@@ -3,7 +3,7 @@ use hack_base::Bytes;
 use hack_types::{Place, SymbolId};
 
 /// The head of a unit: what the unit declares, and where it stands (docs/language.md, Which declaration counts).
-#[derive(Clone, Copy, Debug, PartialEq, Eq)]
+#[derive(Clone, Copy, PartialEq, Eq)]
 pub struct UnitHead {
     /// What it declares.
     pub symbol: SymbolId,
@@ -16,7 +16,7 @@ pub struct UnitHead {
 }
 
 /// A unit, borrowed from the table.
-#[derive(Debug, Drop)]
+#[derive(Drop)]
 pub struct UnitAt<'a> {
     /// Its file's name.
     pub file: &'a [u8],
@@ -25,7 +25,7 @@ pub struct UnitAt<'a> {
 }
 
 /// A unit that stands alone.
-#[derive(Debug, Drop)]
+#[derive(Drop)]
 pub struct UnitRef {
     /// Its file's name.
     pub file: Bytes,

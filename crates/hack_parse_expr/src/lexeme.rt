@@ -4,7 +4,7 @@ use hack_lexer::TokenKind;
 use hack_types::{NameId, Place};
 
 /// A token with what the grammar needs of it.
-#[derive(Clone, Copy, Debug)]
+#[derive(Clone, Copy)]
 pub struct Lexeme {
     /// What it is.
     pub kind: TokenKind,

@@ -9,7 +9,7 @@ use hack_tree::{
 };
 
 /// A row of docs/language.md, Types.
-#[derive(Clone, Copy, Debug, PartialEq, Eq)]
+#[derive(Clone, Copy, PartialEq, Eq)]
 pub enum TypeRow {
     /// `?` and a type.
     Optional,
@@ -65,7 +65,7 @@ fn type_row_of_keyword(keyword: Keyword) -> Option<TypeRow>
 }
 
 /// A level of binary operators, the loosest first (docs/language.md, Expressions).
-#[derive(Clone, Copy, Debug, PartialEq, Eq)]
+#[derive(Clone, Copy, PartialEq, Eq)]
 pub enum Level {
     /// `??`
     Coalesce,
@@ -90,7 +90,7 @@ pub enum Level {
 }
 
 /// A row of docs/language.md, Expressions, that begins an operand without a prefix operator or a cast.
-#[derive(Clone, Copy, Debug, PartialEq, Eq)]
+#[derive(Clone, Copy, PartialEq, Eq)]
 pub enum PrimaryRow {
     /// `(`
     Bracket,
@@ -127,7 +127,7 @@ pub enum PrimaryRow {
 }
 
 /// A keyword that stands for a class.
-#[derive(Clone, Copy, Debug, PartialEq, Eq)]
+#[derive(Clone, Copy, PartialEq, Eq)]
 pub enum ClassWord {
     /// `self`
     Self_,
@@ -138,7 +138,7 @@ pub enum ClassWord {
 }
 
 /// A row of docs/language.md, Expressions, behind an operand.
-#[derive(Clone, Copy, Debug, PartialEq, Eq)]
+#[derive(Clone, Copy, PartialEq, Eq)]
 pub enum SuffixRow {
     /// `[`
     Index,
@@ -153,7 +153,7 @@ pub enum SuffixRow {
 }
 
 /// A row of docs/language.md, Expressions, that has an operator before its operand.
-#[derive(Clone, Copy, Debug, PartialEq, Eq)]
+#[derive(Clone, Copy, PartialEq, Eq)]
 pub enum UnaryRow {
     /// An operator such as `!`.
     Prefix(PrefixOperator),
@@ -162,7 +162,7 @@ pub enum UnaryRow {
 }
 
 /// What counts as nesting when it is opened.
-#[derive(Clone, Copy, Debug, PartialEq, Eq)]
+#[derive(Clone, Copy, PartialEq, Eq)]
 pub enum Nested {
     /// An expression.
     Expression,
@@ -406,7 +406,7 @@ pub(crate) fn class_word(keyword: Keyword) -> Option<ClassWord>
 }
 
 /// A row of docs/language.md, Statements.
-#[derive(Clone, Copy, Debug, PartialEq, Eq)]
+#[derive(Clone, Copy, PartialEq, Eq)]
 pub enum StatementRow {
     /// `{`
     Block,
@@ -441,7 +441,7 @@ pub enum StatementRow {
 }
 
 /// A row of docs/language.md, Declarations, behind the attributes.
-#[derive(Clone, Copy, Debug, PartialEq, Eq)]
+#[derive(Clone, Copy, PartialEq, Eq)]
 pub enum DeclarationRow {
     /// `function`
     Function,
@@ -460,7 +460,7 @@ pub enum DeclarationRow {
 }
 
 /// A row of a member, behind its attributes and modifiers.
-#[derive(Clone, Copy, Debug, PartialEq, Eq)]
+#[derive(Clone, Copy, PartialEq, Eq)]
 pub enum MemberRow {
     /// `const`
     Constant,

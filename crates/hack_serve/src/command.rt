@@ -10,7 +10,7 @@ use script_text::{Head, ReadStop, ScriptReader};
 use std::alloc::Global;
 
 /// A command of a script, with its text (docs/script.md, Form).
-#[derive(Debug, Drop)]
+#[derive(Drop)]
 pub(crate) enum Command {
     /// Put a file of this name with these bytes. `line` is that of the command's first byte, from 1.
     File {

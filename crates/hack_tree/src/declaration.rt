@@ -6,7 +6,7 @@ use hack_types::{NameId, Place, SymbolId};
 use sqlite_items::Items;
 
 /// Who may use a member.
-#[derive(Clone, Copy, Debug, PartialEq, Eq)]
+#[derive(Clone, Copy, PartialEq, Eq)]
 pub enum Visibility {
     /// `public`
     Public,
@@ -17,7 +17,7 @@ pub enum Visibility {
 }
 
 /// A word before a member.
-#[derive(Clone, Copy, Debug, PartialEq, Eq)]
+#[derive(Clone, Copy, PartialEq, Eq)]
 pub enum Modifier {
     /// `public`, `protected` or `private`.
     Visibility(Visibility),
@@ -30,7 +30,7 @@ pub enum Modifier {
 }
 
 /// A word before `class`.
-#[derive(Clone, Copy, Debug, PartialEq, Eq)]
+#[derive(Clone, Copy, PartialEq, Eq)]
 pub enum ClassModifier {
     /// `abstract`
     Abstract,
@@ -39,7 +39,7 @@ pub enum ClassModifier {
 }
 
 /// The sign before a type parameter.
-#[derive(Clone, Copy, Debug, PartialEq, Eq)]
+#[derive(Clone, Copy, PartialEq, Eq)]
 pub enum Variance {
     /// `+`
     Covariant,
@@ -48,7 +48,7 @@ pub enum Variance {
 }
 
 /// The word before a bound of a type parameter.
-#[derive(Clone, Copy, Debug, PartialEq, Eq)]
+#[derive(Clone, Copy, PartialEq, Eq)]
 pub enum BoundKind {
     /// `as`
     As,
@@ -57,7 +57,7 @@ pub enum BoundKind {
 }
 
 /// A name where it is declared.
-#[derive(Clone, Copy, Debug, PartialEq, Eq)]
+#[derive(Clone, Copy, PartialEq, Eq)]
 pub struct DeclaredName {
     /// Its place.
     pub at: Place,
@@ -66,7 +66,7 @@ pub struct DeclaredName {
 }
 
 /// An attribute.
-#[derive(Debug, Drop)]
+#[derive(Drop)]
 pub struct Attribute {
     /// Its name.
     pub name: DeclaredName,
@@ -75,7 +75,7 @@ pub struct Attribute {
 }
 
 /// A bound of a type parameter.
-#[derive(Debug, Drop)]
+#[derive(Drop)]
 pub struct Bound {
     /// The word before it.
     pub kind: BoundKind,
@@ -84,7 +84,7 @@ pub struct Bound {
 }
 
 /// A type parameter.
-#[derive(Debug, Drop)]
+#[derive(Drop)]
 pub struct TypeParameter {
     /// The sign before it, where one stands.
     pub variance: Option<Variance>,
@@ -95,7 +95,7 @@ pub struct TypeParameter {
 }
 
 /// A parameter.
-#[derive(Debug, Drop)]
+#[derive(Drop)]
 pub struct Parameter {
     /// Its attributes.
     pub attributes: Items<Attribute>,
@@ -110,7 +110,7 @@ pub struct Parameter {
 }
 
 /// What a function or method says of itself before its body.
-#[derive(Debug, Drop)]
+#[derive(Drop)]
 pub struct Callable {
     /// Its name.
     pub name: DeclaredName,
@@ -124,7 +124,7 @@ pub struct Callable {
 
 /// A member of a class, an interface or a trait, one variant for each row of docs/language.md, Declarations. `at` is the
 /// place of its first token, relative to that of the declaration.
-#[derive(Debug, Drop)]
+#[derive(Drop)]
 pub enum Member {
     /// `use` and traits.
     Use {
@@ -179,7 +179,7 @@ pub enum Member {
 }
 
 /// A case of an enum.
-#[derive(Debug, Drop)]
+#[derive(Drop)]
 pub struct EnumCase {
     /// Its name.
     pub name: DeclaredName,
@@ -189,7 +189,7 @@ pub struct EnumCase {
 
 /// A declaration, one variant for each row of docs/language.md, Declarations. The place of its first token is 0:0, since
 /// places in it are relative to that token.
-#[derive(Debug, Drop)]
+#[derive(Drop)]
 pub enum UnitTree {
     /// A function.
     Function {
@@ -281,7 +281,7 @@ pub enum UnitTree {
 }
 
 /// A declaration where it stands in a file.
-#[derive(Debug, Drop)]
+#[derive(Drop)]
 pub struct Unit {
     /// What it declares.
     pub symbol: SymbolId,
@@ -296,7 +296,7 @@ pub struct Unit {
 }
 
 /// The tree of a file: its declarations in order.
-#[derive(Debug, Drop)]
+#[derive(Drop)]
 pub struct FileTree {
     /// The declarations.
     pub units: Items<Unit>,

@@ -5,7 +5,7 @@ use hack_types::{NameId, Place};
 use sqlite_items::{Boxed, Items};
 
 /// An assignment's operator.
-#[derive(Clone, Copy, Debug, PartialEq, Eq)]
+#[derive(Clone, Copy, PartialEq, Eq)]
 pub enum AssignOperator {
     /// `=`
     Assign,
@@ -34,7 +34,7 @@ pub enum AssignOperator {
 }
 
 /// An operator between two operands. Each belongs to one level of docs/language.md, Expressions.
-#[derive(Clone, Copy, Debug, PartialEq, Eq)]
+#[derive(Clone, Copy, PartialEq, Eq)]
 pub enum BinaryOperator {
     /// `??`, which groups from the right
     Coalesce,
@@ -81,7 +81,7 @@ pub enum BinaryOperator {
 }
 
 /// An operator before its operand.
-#[derive(Clone, Copy, Debug, PartialEq, Eq)]
+#[derive(Clone, Copy, PartialEq, Eq)]
 pub enum PrefixOperator {
     /// `!`
     Not,
@@ -98,7 +98,7 @@ pub enum PrefixOperator {
 }
 
 /// What a cast makes of its operand.
-#[derive(Clone, Copy, Debug, PartialEq, Eq)]
+#[derive(Clone, Copy, PartialEq, Eq)]
 pub enum CastType {
     /// `(int)`
     Int,
@@ -111,7 +111,7 @@ pub enum CastType {
 }
 
 /// The word before a type that is tested.
-#[derive(Clone, Copy, Debug, PartialEq, Eq)]
+#[derive(Clone, Copy, PartialEq, Eq)]
 pub enum TestOperator {
     /// `is`
     Is,
@@ -122,7 +122,7 @@ pub enum TestOperator {
 }
 
 /// A literal.
-#[derive(Clone, Copy, Debug, PartialEq, Eq)]
+#[derive(Clone, Copy, PartialEq, Eq)]
 pub enum Literal {
     /// An int.
     Int,
@@ -141,7 +141,7 @@ pub enum Literal {
 }
 
 /// What stands before `::`, or behind `new` without type arguments.
-#[derive(Clone, Copy, Debug, PartialEq, Eq)]
+#[derive(Clone, Copy, PartialEq, Eq)]
 pub enum ClassReference {
     /// A class's name.
     Named(NameId),
@@ -156,7 +156,7 @@ pub enum ClassReference {
 /// An expression, one variant for each row of docs/language.md, Expressions. `at` is the place of its first token, relative
 /// to the first token of the declaration (docs/script.md, Places). A chain of operators of one level is a list.
 #[cycle(expressions)]
-#[derive(Debug, Drop)]
+#[derive(Drop)]
 pub enum Expr {
     /// `target = value` and its kin.
     Assign {
@@ -323,7 +323,7 @@ pub enum Expr {
 
 /// An operand of a chain but the first.
 #[cycle(expressions)]
-#[derive(Debug, Drop)]
+#[derive(Drop)]
 pub struct Operand {
     /// The operator before it.
     pub operator: BinaryOperator,
@@ -332,7 +332,7 @@ pub struct Operand {
 }
 
 /// A word such as `is`, and the type behind it.
-#[derive(Debug, Drop)]
+#[derive(Drop)]
 pub struct TypeTest {
     /// The word.
     pub operator: TestOperator,
@@ -342,7 +342,7 @@ pub struct TypeTest {
 
 /// What may stand behind an operand.
 #[cycle(expressions)]
-#[derive(Debug, Drop)]
+#[derive(Drop)]
 pub enum Suffix {
     /// `[index]`, or `[]`.
     Index {
@@ -366,7 +366,7 @@ pub enum Suffix {
 
 /// What stands behind `::`.
 #[cycle(expressions)]
-#[derive(Debug, Drop)]
+#[derive(Drop)]
 pub enum ScopedMember {
     /// A variable, which is a property.
     Property {
@@ -384,7 +384,7 @@ pub enum ScopedMember {
 
 /// An entry of a `dict`.
 #[cycle(expressions)]
-#[derive(Debug, Drop)]
+#[derive(Drop)]
 pub struct Entry {
     /// What stands before the `=>`.
     pub key: Expr,
@@ -394,7 +394,7 @@ pub struct Entry {
 
 /// A field of a `shape`.
 #[cycle(expressions)]
-#[derive(Debug, Drop)]
+#[derive(Drop)]
 pub struct FieldValue {
     /// The place of the key.
     pub key_at: Place,

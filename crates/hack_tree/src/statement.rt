@@ -7,7 +7,7 @@ use sqlite_items::{Boxed, Items};
 /// A statement, one variant for each row of docs/language.md, Statements. `at` is the place of its first token, relative to
 /// the first token of the declaration (docs/script.md, Places).
 #[cycle(statements)]
-#[derive(Debug, Drop)]
+#[derive(Drop)]
 pub enum Stmt {
     /// Statements in braces.
     Block {
@@ -138,7 +138,7 @@ pub enum Stmt {
 
 /// A case of a `switch`.
 #[cycle(statements)]
-#[derive(Debug, Drop)]
+#[derive(Drop)]
 pub struct Case {
     /// The place of `case` or `default`.
     pub at: Place,
@@ -150,7 +150,7 @@ pub struct Case {
 
 /// A `catch` of a `try`.
 #[cycle(statements)]
-#[derive(Debug, Drop)]
+#[derive(Drop)]
 pub struct Catch {
     /// The type that is caught.
     pub class: ClassType,

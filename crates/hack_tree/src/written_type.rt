@@ -4,7 +4,7 @@ use hack_types::{NameId, Place};
 use sqlite_items::{Boxed, Items};
 
 /// A type that one keyword spells.
-#[derive(Clone, Copy, Debug, PartialEq, Eq)]
+#[derive(Clone, Copy, PartialEq, Eq)]
 pub enum Primitive {
     /// `arraykey`
     ArrayKey,
@@ -33,7 +33,7 @@ pub enum Primitive {
 }
 
 /// A container with one type argument.
-#[derive(Clone, Copy, Debug, PartialEq, Eq)]
+#[derive(Clone, Copy, PartialEq, Eq)]
 pub enum Container {
     /// `vec`
     Vec,
@@ -44,7 +44,7 @@ pub enum Container {
 /// A type as it is written, one variant for each row of docs/language.md, Types. `at` is the place of its first token,
 /// relative to the first token of the declaration (docs/script.md, Places).
 #[cycle(types)]
-#[derive(Debug, Drop)]
+#[derive(Drop)]
 pub enum WrittenType {
     /// `?T`
     Optional {
@@ -98,7 +98,7 @@ pub enum WrittenType {
 
 /// A name with its type arguments, as it stands in a type, behind `extends` and in `catch`.
 #[cycle(types)]
-#[derive(Debug, Drop)]
+#[derive(Drop)]
 pub struct ClassType {
     /// The place of the name.
     pub at: Place,
@@ -110,7 +110,7 @@ pub struct ClassType {
 
 /// A field of a shape type.
 #[cycle(types)]
-#[derive(Debug, Drop)]
+#[derive(Drop)]
 pub struct FieldType {
     /// Whether a `?` stands before it.
     pub optional: bool,

@@ -6,7 +6,7 @@ use crate::NameId;
 use std::marker::Model;
 
 /// A field of a shape type (docs/language.md, Types and their texts).
-#[derive(Debug, Drop)]
+#[derive(Drop)]
 pub struct Field<T> {
     /// Its key, without quotes.
     pub key: NameId,
@@ -17,7 +17,7 @@ pub struct Field<T> {
 }
 
 /// The fields of a shape, each key once. Contracts see the list of them, which rises by the id of the key.
-#[derive(Debug, Drop)]
+#[derive(Drop)]
 pub struct Fields<T> {
     items: Vec<Field<T>>,
 }

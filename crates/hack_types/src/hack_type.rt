@@ -6,7 +6,7 @@ use sqlite_items::{Boxed, Items};
 /// A type (docs/language.md, Types and their texts). It has no name that could mean two things: a type parameter is one of the
 /// class or of the function, by its position in the list from 0, and every other name is a symbol's of kind `Class`.
 #[cycle(types)]
-#[derive(Debug, Drop)]
+#[derive(Drop)]
 pub enum HackType {
     /// `_`: what stands where a type can't be known.
     Any,

@@ -8,7 +8,7 @@ use std::marker::Model;
 
 /// The members of a class, each name once of each kind. Contracts see the list of them, which rises by kind (constants, properties,
 /// methods), then by the id of the name.
-#[derive(Debug, Drop)]
+#[derive(Drop)]
 pub struct Members {
     items: Vec<Member>,
 }
@@ -48,7 +48,7 @@ impl Members {
 }
 
 /// Names, each once. Contracts see the list of their ids, which rises.
-#[derive(Debug, Drop)]
+#[derive(Drop)]
 pub struct NameSet {
     items: Vec<NameId>,
 }

@@ -4,7 +4,7 @@ use crate::{HackType, Members, NameId, NameSet, Signature, TypeParam};
 use sqlite_items::Items;
 
 /// Who may use a member.
-#[derive(Clone, Copy, Debug, PartialEq, Eq)]
+#[derive(Clone, Copy, PartialEq, Eq)]
 pub enum Visibility {
     /// Everybody.
     Public,
@@ -15,7 +15,7 @@ pub enum Visibility {
 }
 
 /// What a member is, and its type.
-#[derive(Debug, Drop)]
+#[derive(Drop)]
 pub enum MemberKind {
     /// A constant of this type.
     Constant(HackType),
@@ -26,7 +26,7 @@ pub enum MemberKind {
 }
 
 /// A member of a class, an interface or a trait (docs/language.md, Members).
-#[derive(Debug, Drop)]
+#[derive(Drop)]
 pub struct Member {
     /// What it is.
     pub kind: MemberKind,
@@ -45,7 +45,7 @@ pub struct Member {
 }
 
 /// What a class-like declaration is.
-#[derive(Clone, Copy, Debug, PartialEq, Eq)]
+#[derive(Clone, Copy, PartialEq, Eq)]
 pub enum Sort {
     /// A class.
     Class,
@@ -56,7 +56,7 @@ pub enum Sort {
 }
 
 /// The signature of a class, an interface or a trait.
-#[derive(Debug, Drop)]
+#[derive(Drop)]
 pub struct ClassSig {
     /// Which of the three.
     pub sort: Sort,
@@ -77,7 +77,7 @@ pub struct ClassSig {
 }
 
 /// The signature of an enum.
-#[derive(Debug, Drop)]
+#[derive(Drop)]
 pub struct EnumSig {
     /// The type of its values.
     pub base: HackType,
@@ -88,7 +88,7 @@ pub struct EnumSig {
 }
 
 /// The signature of an alias.
-#[derive(Debug, Drop)]
+#[derive(Drop)]
 pub struct AliasSig {
     /// Its type parameters, in order.
     pub type_params: Items<TypeParam>,
@@ -97,7 +97,7 @@ pub struct AliasSig {
 }
 
 /// The signature of a declaration by itself (docs/language.md, Signatures).
-#[derive(Debug, Drop)]
+#[derive(Drop)]
 pub enum Shallow {
     /// Of a class, an interface or a trait.
     ClassLike(ClassSig),

@@ -4,7 +4,7 @@ use crate::{HackType, NameId};
 use sqlite_items::Items;
 
 /// How a type parameter varies (docs/language.md, Signatures).
-#[derive(Clone, Copy, Debug, PartialEq, Eq)]
+#[derive(Clone, Copy, PartialEq, Eq)]
 pub enum Variance {
     /// Without a sign.
     Invariant,
@@ -15,7 +15,7 @@ pub enum Variance {
 }
 
 /// A type parameter of a class, an alias, a function or a method.
-#[derive(Debug, Drop)]
+#[derive(Drop)]
 pub struct TypeParam {
     /// Its name.
     pub name: NameId,
@@ -28,7 +28,7 @@ pub struct TypeParam {
 }
 
 /// A parameter of a function or method.
-#[derive(Debug, Drop)]
+#[derive(Drop)]
 pub struct Param {
     /// Its type.
     pub ty: HackType,
@@ -37,7 +37,7 @@ pub struct Param {
 }
 
 /// What a call of a function or method needs and gives.
-#[derive(Debug, Drop)]
+#[derive(Drop)]
 pub struct Signature {
     /// Its own type parameters, in order.
     pub type_params: Items<TypeParam>,

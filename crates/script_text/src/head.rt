@@ -5,7 +5,7 @@ ghost use Rattle.script_text.specs.declared.head.ReadStop.TheVariants.{Fault as 
 use hack_io::{NoMemory, ReadFault};
 
 /// The head of a command, or the end of the script (docs/script.md, Commands).
-#[derive(Debug, Drop)]
+#[derive(Drop)]
 pub enum Head {
     /// Put a file of this name. Its text of `len` bytes stands behind the head.
     File { name: Vec<u8>, len: u64 },

@@ -16,7 +16,7 @@ const MAX_BODY: u64 = 1 << 20;
 pub(crate) const MAX_LINE: usize = 300;
 
 /// The head of a command (docs/script.md, Form). Its name is borrowed from the line.
-#[derive(Clone, Copy, Debug)]
+#[derive(Clone, Copy)]
 pub(crate) enum LineHead<'a> {
     /// Put a file of this name, whose text of `len` bytes stands behind the line.
     File { name: &'a [u8], len: u64 },

@@ -8,7 +8,7 @@ use hack_types::FileDiag;
 use std::alloc::Global;
 
 /// The reply to a command (docs/script.md, Replies).
-#[derive(Debug, Drop)]
+#[derive(Drop)]
 pub enum Reply {
     /// A file was put or taken away: how many times that was done so far.
     Edit(u64),
