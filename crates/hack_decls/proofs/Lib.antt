@@ -1,1 +1,2 @@
+pub mod MemberSearch
 pub mod PlainLemmas

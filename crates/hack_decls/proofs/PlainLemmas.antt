@@ -17,7 +17,7 @@ use Rattle.hack_decls.specs.PlainMap.{Declares, kind_order, symbol_order, map_st
 
 -- ---- the order tells all symbols apart
 
-both_tie : (p q : Ordering) → ordering_then p q ≡ Equal → (p ≡ Equal) × (q ≡ Equal)
+pub both_tie : (p q : Ordering) → ordering_then p q ≡ Equal → (p ≡ Equal) × (q ≡ Equal)
 both_tie Less q e = absurd cc
 both_tie Equal q e = (refl, e)
 both_tie Greater q e = absurd cc

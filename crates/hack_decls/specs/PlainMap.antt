@@ -1,5 +1,5 @@
 -- What a `MapDecls` stands for, and what putting a declaration does to it.
-use Rattle.std.specs.Prelude.{◌≡◌, ◌≢◌, true, Some, []}
+use Rattle.std.proofs.Common.{◌≡◌, ◌≢◌, ◌<◌, ◌-◌, ◌^◌, ◌⊎◌, inl, inr, true, Option, Some, Err, [], arith}
 use Rattle.std.specs.BTreeMap as tree
 use Rattle.std.specs.BTreeSet as sorted
 use Rattle.std.specs.declared.cmp.Ordering.{Ordering}
@@ -9,7 +9,10 @@ use Rattle.hack_types.specs.declared.ids.Kind.{Kind}
 use Rattle.hack_types.specs.declared.ids.SymbolId.{SymbolId}
 use Rattle.hack_decls.specs.declared.folded.Folded.{Folded}
 use Rattle.hack_decls.specs.declared.map_decls.MapDecls.{MapDecls}
+use Rattle.hack_decls.specs.declared.stop.DeclStop.TheVariants as stop
+use Rattle.hack_decls.specs.declared.stop.EdgesFull.{EdgesFull}
 use Rattle.hack_decls.specs.DeclState.{DeclState, Map}
+use Rattle.hack_decls.specs.Looks.{Looks}
 
 -- as `Kind` has it
 abbrev pub kind_order : Kind → Kind → Ordering
@@ -34,3 +37,12 @@ map_state decls = record {
 pub record Declares (old : Map) (s : SymbolId) (folded : Folded) (new : Map) : Type 0 where
   pub here : new s ≡ Some folded
   pub elsewhere : (t : SymbolId) → t ≢ s → new t ≡ old t
+
+-- a map has no edge words, so it never says that they are full
+no_cause : (0 < 0) ⊎ (0 ≡ 2 ^ 64 - 1) → ⊥
+no_cause (inl less) = omega arith
+no_cause (inr same) = omega arith
+
+pub never_full : {A : Type 0} {Is : Option Folded → A → Type 0} (old new : MapDecls) (s : SymbolId) (full : EdgesFull)
+    → Looks (map_state old) s (Err (stop.EdgesFull full)) (map_state new) Is → ⊥
+never_full old new s full looks = no_cause looks.keeps.cause

@@ -4,7 +4,7 @@ use hack_types::{AliasSig, EnumSig, HackType, Member, Signature, Sort, TypeParam
 use sqlite_items::Items;
 
 /// Which of a class's three lists a member is in.
-#[derive(Clone, Copy, Debug, PartialEq, Eq)]
+#[derive(Clone, Copy)]
 pub enum MemberTag {
     /// The constants.
     Constant,
@@ -15,7 +15,7 @@ pub enum MemberTag {
 }
 
 /// A member of a class by its name.
-#[derive(Debug, Drop)]
+#[derive(Drop)]
 pub enum MemberAnswer {
     /// Nothing is declared under the class's name.
     Absent,
@@ -31,7 +31,7 @@ pub enum MemberAnswer {
 }
 
 /// An ancestor of a class by its name.
-#[derive(Debug, Drop)]
+#[derive(Drop)]
 pub enum AncestorAnswer {
     /// Nothing is declared under the class's name.
     Absent,
@@ -47,7 +47,7 @@ pub enum AncestorAnswer {
 }
 
 /// A class, an interface or a trait without its members and ancestors.
-#[derive(Debug, Drop)]
+#[derive(Drop)]
 pub struct ClassHeading {
     /// Which of the three.
     pub sort: Sort,
@@ -64,7 +64,7 @@ pub struct ClassHeading {
 }
 
 /// What a declaration is without its members and ancestors.
-#[derive(Debug, Drop)]
+#[derive(Drop)]
 pub enum HeadingAnswer {
     /// Nothing is declared under the name.
     Absent,

@@ -27,8 +27,8 @@ fn copy_class(alloc: Global, class: &ClassFolded) -> Result<ClassFolded, NoMemor
     ensures { IfOk result (λ copied. copied ≡ class.now) }
 {
     let type_params = copy_type_params(alloc, &class.type_params)?;
-    let ancestors = copy_ancestors(alloc, &class.ancestors)?;
-    let members = copy_members(alloc, &class.members)?;
+    let ancestors = copy_items(alloc, &class.ancestors)?;
+    let members = copy_members(alloc, class.members.as_slice())?;
     Ok(ClassFolded {
         sort: class.sort,
         is_abstract: class.is_abstract,
@@ -37,7 +37,7 @@ fn copy_class(alloc: Global, class: &ClassFolded) -> Result<ClassFolded, NoMemor
         partial: class.partial,
         type_params,
         ancestors,
-        members,
+        members: Members::from_vec(members),
     })
 }
 
@@ -72,11 +72,7 @@ pub fn copy_enum(alloc: Global, sig: &EnumSig) -> Result<EnumSig, NoMemory>
 fn copy_names(alloc: Global, names: &NameSet) -> Result<NameSet, NoMemory>
     ensures { IfOk result (λ copied. copied ≡ names.now) }
 {
-    let mut copied = Vec::with_capacity(alloc, names.as_slice().len())?;
-    for name in names.as_slice() {
-        copied.push(*name)?;
-    }
-    Ok(NameSet::from_vec(copied))
+    Ok(NameSet::from_vec(Vec::from_slice(alloc, names.as_slice())?))
 }
 
 /// The same alias once more.
@@ -93,27 +89,13 @@ pub fn copy_signature(alloc: Global, sig: &Signature) -> Result<Signature, NoMem
     ensures { IfOk result (λ copied. copied ≡ sig.now) }
 {
     let type_params = copy_type_params(alloc, &sig.type_params)?;
-    let params = copy_params(alloc, &sig.params)?;
+    let params = copy_items(alloc, &sig.params)?;
     let result_type = sig.result.copy(alloc)?;
     Ok(Signature {
         type_params,
         params,
         result: result_type,
     })
-}
-
-fn copy_params(alloc: Global, params: &Items<Param>) -> Result<Items<Param>, NoMemory>
-    ensures { IfOk result (λ copied. copied ≡ params.now) }
-{
-    let mut copied = Vec::with_capacity(alloc, params.len())?;
-    for param in params.as_slice() {
-        let ty = param.ty.copy(alloc)?;
-        copied.push(Param {
-            ty,
-            optional: param.optional,
-        })?;
-    }
-    Ok(Items::from_vec(copied))
 }
 
 /// The same type parameters once more.
@@ -123,59 +105,21 @@ pub fn copy_type_params(
 ) -> Result<Items<TypeParam>, NoMemory>
     ensures { IfOk result (λ copied. copied ≡ type_params.now) }
 {
-    let mut copied = Vec::with_capacity(alloc, type_params.len())?;
-    for param in type_params.as_slice() {
-        copied.push(copy_type_param(alloc, param)?)?;
-    }
-    Ok(Items::from_vec(copied))
-}
-
-fn copy_type_param(alloc: Global, param: &TypeParam) -> Result<TypeParam, NoMemory>
-    ensures { IfOk result (λ copied. copied ≡ param.now) }
-{
-    let upper = copy_types(alloc, &param.upper)?;
-    let lower = copy_types(alloc, &param.lower)?;
-    Ok(TypeParam {
-        name: param.name,
-        variance: param.variance,
-        upper,
-        lower,
-    })
+    copy_items(alloc, type_params)
 }
 
 /// The same types once more.
 pub fn copy_types(alloc: Global, types: &Items<HackType>) -> Result<Items<HackType>, NoMemory>
     ensures { IfOk result (λ copied. copied ≡ types.now) }
 {
-    let mut copied = Vec::with_capacity(alloc, types.len())?;
-    for ty in types.as_slice() {
-        copied.push(ty.copy(alloc)?)?;
-    }
-    Ok(Items::from_vec(copied))
+    copy_items(alloc, types)
 }
 
-fn copy_ancestors(alloc: Global, ancestors: &Items<Ancestor>) -> Result<Items<Ancestor>, NoMemory>
-    ensures { IfOk result (λ copied. copied ≡ ancestors.now) }
+/// The same members once more.
+pub fn copy_members(alloc: Global, members: &[Member]) -> Result<Vec<Member>, NoMemory>
+    ensures { IfOk result (λ copied. copied.items ≡ members.now) }
 {
-    let mut copied = Vec::with_capacity(alloc, ancestors.len())?;
-    for ancestor in ancestors.as_slice() {
-        let arguments = copy_types(alloc, &ancestor.arguments)?;
-        copied.push(Ancestor {
-            name: ancestor.name,
-            arguments,
-        })?;
-    }
-    Ok(Items::from_vec(copied))
-}
-
-fn copy_members(alloc: Global, members: &Members) -> Result<Members, NoMemory>
-    ensures { IfOk result (λ copied. copied ≡ members.now) }
-{
-    let mut copied = Vec::with_capacity(alloc, members.as_slice().len())?;
-    for member in members.as_slice() {
-        copied.push(copy_member(alloc, member)?)?;
-    }
-    Ok(Members::from_vec(copied))
+    copy_all(alloc, members)
 }
 
 /// The same member once more.
@@ -202,4 +146,73 @@ fn copy_kind(alloc: Global, kind: &MemberKind) -> Result<MemberKind, NoMemory>
         MemberKind::Property(ty) => MemberKind::Property(ty.copy(alloc)?),
         MemberKind::Method(sig) => MemberKind::Method(copy_signature(alloc, sig)?),
     })
+}
+
+fn copy_items<T: Duplicate>(alloc: Global, items: &Items<T>) -> Result<Items<T>, NoMemory>
+    ensures { IfOk result (λ copied. copied ≡ items.now) }
+{
+    Ok(Items::from_vec(copy_all(alloc, items.as_slice())?))
+}
+
+fn copy_all<T: Duplicate>(alloc: Global, items: &[T]) -> Result<Vec<T>, NoMemory>
+    ensures { IfOk result (λ copied. copied.items ≡ items.now) }
+{
+    let mut copied = Vec::with_capacity(alloc, items.len())?;
+    for item in items {
+        copied.push(item.duplicate(alloc)?)?;
+    }
+    Ok(copied)
+}
+
+// What lists of it are copied by.
+trait Duplicate: Drop {
+    ghost use Rattle.std.specs.Prelude.{◌≡◌, IfOk};
+
+    fn duplicate(&self, alloc: Global) -> Result<Self, NoMemory>
+        ensures { IfOk result (λ copied. copied ≡ self.now) };
+}
+
+impl Duplicate for HackType {
+    fn duplicate(&self, alloc: Global) -> Result<HackType, NoMemory> {
+        self.copy(alloc)
+    }
+}
+
+impl Duplicate for Param {
+    fn duplicate(&self, alloc: Global) -> Result<Param, NoMemory> {
+        let ty = self.ty.copy(alloc)?;
+        Ok(Param {
+            ty,
+            optional: self.optional,
+        })
+    }
+}
+
+impl Duplicate for TypeParam {
+    fn duplicate(&self, alloc: Global) -> Result<TypeParam, NoMemory> {
+        let upper = copy_types(alloc, &self.upper)?;
+        let lower = copy_types(alloc, &self.lower)?;
+        Ok(TypeParam {
+            name: self.name,
+            variance: self.variance,
+            upper,
+            lower,
+        })
+    }
+}
+
+impl Duplicate for Ancestor {
+    fn duplicate(&self, alloc: Global) -> Result<Ancestor, NoMemory> {
+        let arguments = copy_types(alloc, &self.arguments)?;
+        Ok(Ancestor {
+            name: self.name,
+            arguments,
+        })
+    }
+}
+
+impl Duplicate for Member {
+    fn duplicate(&self, alloc: Global) -> Result<Member, NoMemory> {
+        copy_member(alloc, self)
+    }
 }

@@ -1,6 +1,6 @@
 // How declarations are looked up.
 
-use crate::picks::{pick_ancestor, pick_heading, pick_member};
+use crate::picks::{ancestor_of, heading_of, member_of};
 use crate::{AncestorAnswer, DeclStop, Folded, HeadingAnswer, MemberAnswer, MemberTag};
 use hack_types::{NameId, SymbolId};
 use std::alloc::Global;
@@ -22,7 +22,8 @@ pub trait Decls {
 
     /// The whole declaration, where there is one.
     fn folded(&mut self, alloc: Global, s: SymbolId) -> Result<Option<Folded>, DeclStop>
-        ensures { Looks (state self.old) s result (state self.new) (λ entry answer. answer ≡ entry) };
+        ensures { Looks (state self.old) s result (state self.new)
+            (λ entry answer. answer ≡ entry) };
 
     /// One member of a class, by its kind and name.
     fn member(
@@ -35,10 +36,10 @@ pub trait Decls {
         ensures { Looks (state self.old) s result (state self.new)
             (λ entry answer. answer ≡ member_answer tag name entry) }
     {
-        match self.folded(alloc, s)? {
-            Some(folded) => Ok(pick_member(alloc, &folded, tag, name)?),
-            None => Ok(MemberAnswer::Absent),
-        }
+        let found = self.folded(alloc, s)?;
+        let answer = member_of(alloc, &found, tag, name);
+        drop(found);
+        Ok(answer?)
     }
 
     /// The arguments that a class gives one of its ancestors, by the ancestor's name.
@@ -51,10 +52,10 @@ pub trait Decls {
         ensures { Looks (state self.old) s result (state self.new)
             (λ entry answer. answer ≡ ancestor_answer name entry) }
     {
-        match self.folded(alloc, s)? {
-            Some(folded) => Ok(pick_ancestor(alloc, &folded, name)?),
-            None => Ok(AncestorAnswer::Absent),
-        }
+        let found = self.folded(alloc, s)?;
+        let answer = ancestor_of(alloc, &found, name);
+        drop(found);
+        Ok(answer?)
     }
 
     /// The declaration without its members and ancestors.
@@ -62,9 +63,9 @@ pub trait Decls {
         ensures { Looks (state self.old) s result (state self.new)
             (λ entry answer. answer ≡ heading_answer entry) }
     {
-        match self.folded(alloc, s)? {
-            Some(folded) => Ok(pick_heading(alloc, &folded)?),
-            None => Ok(HeadingAnswer::Absent),
-        }
+        let found = self.folded(alloc, s)?;
+        let answer = heading_of(alloc, &found);
+        drop(found);
+        Ok(answer?)
     }
 }

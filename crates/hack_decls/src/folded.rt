@@ -4,7 +4,7 @@ use hack_types::{AliasSig, EnumSig, HackType, Members, NameId, Signature, Sort, 
 use sqlite_items::Items;
 
 /// A class-like declaration above a class, with the arguments that the class gives it.
-#[derive(Debug, Drop)]
+#[derive(Drop)]
 pub struct Ancestor {
     /// Its name.
     pub name: NameId,
@@ -13,7 +13,7 @@ pub struct Ancestor {
 }
 
 /// A class, an interface or a trait with all that it inherits (docs/language.md, Folding).
-#[derive(Debug, Drop)]
+#[derive(Drop)]
 pub struct ClassFolded {
     /// Which of the three.
     pub sort: Sort,
@@ -34,7 +34,7 @@ pub struct ClassFolded {
 }
 
 /// What a declaration is with all that it inherits (docs/language.md, Folding). All but class-like ones fold to themselves.
-#[derive(Debug, Drop)]
+#[derive(Drop)]
 pub enum Folded {
     /// Of a class, an interface or a trait.
     ClassLike(ClassFolded),

@@ -11,8 +11,8 @@ mod stop;
 
 pub use answers::{AncestorAnswer, ClassHeading, HeadingAnswer, MemberAnswer, MemberTag};
 pub use copies::{
-    copy_alias, copy_class_heading, copy_enum, copy_folded, copy_member, copy_signature,
-    copy_type_params, copy_types,
+    copy_alias, copy_class_heading, copy_enum, copy_folded, copy_member, copy_members,
+    copy_signature, copy_type_params, copy_types,
 };
 pub use decls::Decls;
 pub use folded::{Ancestor, ClassFolded, Folded};

@@ -37,7 +37,8 @@ impl MapDecls {
         ensures refused { OnErr result ((map_state self.new).map ≡ (map_state self.old).map) }
         ensures noted { (map_state self.new).noted ≡ (map_state self.old).noted }
     {
-        self.entries.insert(s, folded)?;
+        let before = self.entries.insert(s, folded)?;
+        drop(before);
         Ok(())
     }
 

@@ -1,6 +1,7 @@
 // What the narrow lookups pick from a folded declaration.
 ghost use Rattle.std.specs.Prelude.{◌≡◌, ◌==◌, Some, IfOk, option_copied};
 ghost use Rattle.std.specs.List.{find};
+ghost use Rattle.std.specs.Ordering.{nat_cmp, ordering_then};
 ghost use Rattle.hack_decls.specs.Picks.{ancestor_answer, heading_answer, is_member, member_answer, tag_rank};
 ghost use Rattle.hack_types.specs.MembersRise.{kind_rank};
 
@@ -11,6 +12,22 @@ use crate::{
 };
 use hack_types::{Member, MemberKind, NameId, NoMemory};
 use std::alloc::Global;
+use std::cmp::Ordering;
+
+/// The member of this kind and name of what is declared.
+pub(crate) fn member_of(
+    alloc: Global,
+    found: &Option<Folded>,
+    tag: MemberTag,
+    name: NameId,
+) -> Result<MemberAnswer, NoMemory>
+    ensures { IfOk result (λ answer. answer ≡ member_answer tag name found.now) }
+{
+    match found {
+        Some(folded) => pick_member(alloc, folded, tag, name),
+        None => Ok(MemberAnswer::Absent),
+    }
+}
 
 /// The member of this kind and name.
 pub(crate) fn pick_member(
@@ -35,18 +52,32 @@ pub(crate) fn pick_member(
 fn find_member(class: &ClassFolded, tag: MemberTag, name: NameId) -> Option<&Member>
     ensures { option_copied result ≡ find (is_member tag name) class.now.members }
 {
-    for member in class.members.as_slice() {
-        if is_member(member, tag, name) {
-            return Some(member);
-        }
+    let members = class.members.as_slice();
+    match members.binary_search_by(|member| place_from(member, tag, name)) {
+        Ok(index) => Some(&members[index]),
+        Err(_) => None,
     }
-    None
 }
 
-fn is_member(member: &Member, tag: MemberTag, name: NameId) -> bool
-    ensures { result ≡ is_member tag name member.now }
+// where the member stands, seen from the place of this kind and name
+fn place_from(member: &Member, tag: MemberTag, name: NameId) -> Ordering
+    ensures { result
+        ≡ ordering_then (nat_cmp (kind_rank member.now.kind) (tag_rank tag))
+        (nat_cmp member.now.name name) }
 {
-    tag_of(member) == tag && member.name == name
+    rank(tag_of(member))
+        .cmp(&rank(tag))
+        .then(member.name.cmp(&name))
+}
+
+fn rank(tag: MemberTag) -> u8
+    ensures { result ≡ tag_rank tag }
+{
+    match tag {
+        MemberTag::Constant => 0,
+        MemberTag::Property => 1,
+        MemberTag::Method => 2,
+    }
 }
 
 fn tag_of(member: &Member) -> MemberTag
@@ -56,6 +87,20 @@ fn tag_of(member: &Member) -> MemberTag
         MemberKind::Constant(_) => MemberTag::Constant,
         MemberKind::Property(_) => MemberTag::Property,
         MemberKind::Method(_) => MemberTag::Method,
+    }
+}
+
+/// The arguments of the ancestor of this name of what is declared.
+pub(crate) fn ancestor_of(
+    alloc: Global,
+    found: &Option<Folded>,
+    name: NameId,
+) -> Result<AncestorAnswer, NoMemory>
+    ensures { IfOk result (λ answer. answer ≡ ancestor_answer name found.now) }
+{
+    match found {
+        Some(folded) => pick_ancestor(alloc, folded, name),
+        None => Ok(AncestorAnswer::Absent),
     }
 }
 
@@ -87,6 +132,16 @@ fn find_ancestor(class: &ClassFolded, name: NameId) -> Option<&Ancestor>
         }
     }
     None
+}
+
+/// What is declared, without its members and ancestors.
+pub(crate) fn heading_of(alloc: Global, found: &Option<Folded>) -> Result<HeadingAnswer, NoMemory>
+    ensures { IfOk result (λ answer. answer ≡ heading_answer found.now) }
+{
+    match found {
+        Some(folded) => pick_heading(alloc, folded),
+        None => Ok(HeadingAnswer::Absent),
+    }
 }
 
 /// The declaration without its members and ancestors.

@@ -4,14 +4,14 @@ ghost use Rattle.std.specs.Prelude.{◌≡◌};
 use hack_types::NoMemory;
 
 /// No edge word was left for what was asked.
-#[derive(Clone, Copy, Debug, PartialEq, Eq)]
+#[derive(Clone, Copy)]
 pub struct EdgesFull {
     /// How many edge words there are.
     pub have: u64,
 }
 
 /// Why a declaration can't be had.
-#[derive(Clone, Copy, Debug, PartialEq, Eq)]
+#[derive(Clone, Copy)]
 pub enum DeclStop {
     /// That it was asked for can't be kept.
     EdgesFull(EdgesFull),
