@@ -3,6 +3,7 @@ use Rattle.std.proofs.Common.{◌≡◌, ◌+◌, ◌≤◌, ◌&&◌, ◌||◌,
 use Rattle.std.proofs.lemmas.List.{append_assoc, append-nil, map-append}
 use Rattle.std.proofs.lemmas.List.Elements.{All-head, All-tail}
 use Rattle.std.proofs.lemmas.Simd.{map-map}
+use Rattle.std.proofs.lemmas.Grind.{flat_map-append}
 use Rattle.std.proofs.lemmas.List.Folds.{flat_map-map, list_any-append}
 use Rattle.std.proofs.lemmas.List.Sums.{fold-append}
 use Rattle.std.specs.List.{list_all, list_any}
@@ -27,7 +28,7 @@ use Rattle.hack_fold.specs.Parents.{Parent, Shallows, all_good, class_by, class_
 use Rattle.hack_fold.specs.Line.{is_cyclic}
 use Rattle.hack_fold.specs.Paths.{ancestor_from, ancestor_in, ancestors_along, along, end_of, is_incomplete, is_trait, kind_with, lacks_by, member_along, member_with, members_along, members_by, is_trait_by, onward, onward_by, origin_along, own_members, param_with, paths, put_in, signature_with, type_param_with}
 use Rattle.hack_fold.specs.Walked.{IsFolded, better, chosen, class_within, firsts, with_ancestor, with_member, within}
-use Rattle.hack_fold.specs.FromParents.{Known, all_known, ancestors_in, from_parents, known, known_class, known_fits, lacks, members_in, origin_in}
+use Rattle.hack_fold.specs.inside.FromParents.{Known, all_known, ancestors_in, from_parents, known, known_class, known_fits, lacks, members_in, origin_in}
 use Rattle.hack_fold.proofs.Firsts as thin
 use Rattle.hack_fold.proofs.Gather as rise
 use Rattle.hack_fold.proofs.MemberLaws.{changed, members_choose, same_choice, same_place}
@@ -35,10 +36,6 @@ use Rattle.hack_fold.proofs.MemberLaws.{changed, members_choose, same_choice, sa
 -- ---- lists
 
 module _ {X Y : Type 0} where
-  flat_map-append : (f : X → List Y) (xs ys : List X) → flat_map f (xs ++ ys) ≡ flat_map f xs ++ flat_map f ys
-  flat_map-append f [] ys = refl
-  flat_map-append f (x ∷ xs) ys = ap (λ l. f x ++ l) (flat_map-append f xs ys) ∙ sym (append_assoc (f x) (flat_map f xs) (flat_map f ys))
-
   flat_map-same : (f g : X → List Y) → ((x : X) → f x ≡ g x) → (xs : List X) → flat_map f xs ≡ flat_map g xs
   flat_map-same f g same [] = refl
   flat_map-same f g same (x ∷ xs) = ap (λ l. l ++ flat_map f xs) (same x) ∙ ap (λ l. g x ++ l) (flat_map-same f g same xs)

@@ -13,7 +13,7 @@ use Rattle.hack_decls.specs.Names.{class_symbol}
 use Rattle.hack_fold.specs.Parents.{Shallows, parents}
 use Rattle.hack_fold.specs.Line.{is_cyclic}
 use Rattle.hack_fold.specs.Walked.{FoldsTo, IsFolded, within}
-use Rattle.hack_fold.specs.FromParents.{from_parents}
+use Rattle.hack_fold.specs.inside.FromParents.{from_parents}
 use Rattle.hack_fold.proofs.FoldLaw.{all_enough, class_folds}
 
 pub class_answer : (declared : Map) (s : SymbolId) (sig : ClassSig) (cyclic : Bool) (class : ClassFolded) → class ≡ from_parents declared s.name cyclic sig → MembersRise sig.members
@@ -23,7 +23,3 @@ class_answer declared s sig cyclic class is rise = λ shallows here kind same ab
     let walked = class_folds shallows declared s.name sig at rise (λ acyclic. all_enough shallows declared (parents sig) (above (same ∙ ap (is_cyclic shallows) kind ∙ acyclic))) in
     let answer : from_parents declared s.name (is_cyclic shallows (class_symbol s.name)) sig ≡ class = ap (λ b. from_parents declared s.name b sig) (ap (is_cyclic shallows) (sym kind) ∙ sym same) ∙ sym is in
     subst (λ t. IsFolded shallows t (Some (folded.ClassLike class))) (sym kind) (subst (λ c. IsFolded shallows (class_symbol s.name) (Some (folded.ClassLike c))) answer walked)
-
-pub same_answer : (declared : Map) (s : SymbolId) (cyclic : Bool) (was : Shallow) (answer : Folded) → ((shallows : Shallows) (steps : ℕ) → within shallows steps s was ≡ answer)
-    → FoldsTo declared s was cyclic answer
-same_answer declared s cyclic was answer is = λ shallows here kind same above. (0, λ steps le. ap (option_map (within shallows steps s)) here ∙ ap Some (is shallows steps))

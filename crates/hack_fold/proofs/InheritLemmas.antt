@@ -1,9 +1,7 @@
 -- What a class has of its parents one after the other is what it has of all of them.
-use Rattle.std.proofs.Common.{◌≡◌, ◌<◌, ◌+◌, ◌&&◌, ◌||◌, not, ℕ, Bool, true, false, cond, Option, Some, None, List, [], ◌∷◌, ◌++◌, length, take, get_or, fold, flat_map, filter_map, is_some, option_and_then, option_map, refl, sym, ap, ◌∙◌}
-use Rattle.std.proofs.lemmas.List.{map-append, take_more}
+use Rattle.std.proofs.Common.{◌≡◌, ◌&&◌, ◌||◌, not, ℕ, Bool, true, false, Option, Some, None, Result, Ok, Err, OnOk, List, [], ◌∷◌, ◌++◌, fold, flat_map, filter_map, is_some, refl, sym, ap, ◌∙◌}
 use Rattle.std.proofs.lemmas.List.Sums.{fold-append}
 use Rattle.std.specs.List.{list_all, list_any}
-use Rattle.hack_types.specs.declared.hack_type.HackType.{HackType}
 use Rattle.hack_types.specs.declared.shallow.ClassSig.{ClassSig}
 use Rattle.hack_types.specs.declared.shallow.Member.{Member}
 use Rattle.hack_types.specs.declared.shallow.Sort.{Sort}
@@ -12,8 +10,8 @@ use Rattle.hack_types.specs.declared.signature.TypeParam.{TypeParam}
 use Rattle.hack_decls.specs.DeclState.{Map}
 use Rattle.hack_decls.specs.declared.folded.Ancestor.{Ancestor}
 use Rattle.hack_decls.specs.declared.folded.ClassFolded.{ClassFolded}
-use Rattle.hack_fold.specs.FromParents.{Known, ancestors_in, class_fits, from_parents, known, known_fits, members_in}
-use Rattle.hack_fold.specs.OneByOne.{SoFar, fitting, inherited, own_alone, with_parent, with_parents}
+use Rattle.hack_fold.specs.inside.FromParents.{Known, ancestors_in, from_parents, known, members_in}
+use Rattle.hack_fold.specs.inside.OneByOne.{SoFar, inherited, own_alone, with_parent, with_parents}
 use Rattle.hack_fold.specs.Parents.{Parent, extends_sort, parents, placed}
 use Rattle.hack_fold.specs.Walked.{with_ancestor, with_member}
 use Rattle.hack_fold.proofs.Tests.{or_true}
@@ -41,12 +39,6 @@ or_lacks true k b c = refl
 or_lacks false true true c = refl
 or_lacks false true false c = refl
 or_lacks false false b c = refl
-
-abbrev placed_one : Sort → HackType → Parent
-placed_one wanted type = record { wanted = wanted; type = type }
-
-abbrev pub known_with : Ancestor → ClassFolded → Known
-known_with written class = record { written = written; class = class }
 
 module _ (declared : Map) (name : ℕ) where
   abbrev knowns : List Parent → List Known
@@ -92,19 +84,6 @@ module _ (declared : Map) (name : ℕ) where
           (or_lacks before.partial k.class.partial (list_all (λ q. is_some (known declared q)) ps) (list_any (λ (j : Known). j.class.partial) (knowns ps)))
           ∙ sym (ap (λ o. all_given before (onto o (knowns ps)) (not (is_some o && list_all (λ q. is_some (known declared q)) ps) || list_any (λ (j : Known). j.class.partial) (onto o (knowns ps)))) e)
 
-  -- the three lists of parents one after the other
-  pub in_three : (sig : ClassSig) (none one two three : SoFar) → one ≡ with_parents declared name none (placed sort.Trait sig.uses)
-      → two ≡ with_parents declared name one (placed (extends_sort sig.sort) sig.extends) → three ≡ with_parents declared name two (placed sort.Interface sig.implements)
-      → three ≡ with_parents declared name none (parents sig)
-  in_three sig none one two three first second third =
-      let uses = placed sort.Trait sig.uses in
-      let extends = placed (extends_sort sig.sort) sig.extends in
-      let implements = placed sort.Interface sig.implements in
-      third
-      ∙ ap (λ b. with_parents declared name b implements) (second ∙ ap (λ b. with_parents declared name b extends) first)
-      ∙ sym (fold-append (λ now parent. with_parent name now (known declared parent)) none (uses ++ extends) implements
-      ∙ ap (λ b. with_parents declared name b implements) (fold-append (λ now parent. with_parent name now (known declared parent)) none uses extends))
-
   -- what a class has of all of them
   given_by : (cyclic : Bool) (sig : ClassSig) → inherited declared name cyclic sig
       ≡ parts (from_parents declared name cyclic sig).ancestors (from_parents declared name cyclic sig).members (from_parents declared name cyclic sig).partial
@@ -118,24 +97,26 @@ module _ (declared : Map) (name : ℕ) where
       ap (λ t. class_with sig cyclic t (parts ancestors members partial)) params
       ∙ ap (class_with sig cyclic sig.type_params) (joined ancestors list members own partial partial above inside refl ∙ is ∙ given_by cyclic sig)
 
-  -- one parent more of a list
-  pub one_more : (wanted : Sort) (types : List HackType) (i : ℕ) (type : HackType) → i < length types → type ≡ get_or types i type
-      → (start before after : SoFar) (now : Map) → now ≡ declared → before ≡ with_parents declared name start (placed wanted (take i types))
-      → after ≡ with_parent name before (known now (placed_one wanted type)) → after ≡ with_parents declared name start (placed wanted (take (i + 1) types))
-  one_more wanted types i type lt at start before after now same so_far is =
-      is
-      ∙ ap (λ m. with_parent name before (known m (placed_one wanted type))) same
-      ∙ ap (λ b. with_parent name b (known declared (placed_one wanted type))) so_far
-      ∙ sym (ap (λ l. with_parents declared name start (placed wanted l)) (take_more types i type lt ∙ ap (λ t. take i types ++ t ∷ []) (sym at))
-      ∙ ap (with_parents declared name start) (map-append (λ (t : HackType). placed_one wanted t) (take i types) (type ∷ []))
-      ∙ fold-append (λ b parent. with_parent name b (known declared parent)) start (placed wanted (take i types)) (placed wanted (type ∷ [])))
+-- the three lists of parents one after the other
+module _ (declared second_map third_map : Map) (name : ℕ) (sig : ClassSig) (none one two three : SoFar) where
+  abbrev pub uses : List Parent
+  uses = placed sort.Trait sig.uses
 
--- the class that fits, or none
-pub fits_known : (wanted : Sort) (written : Ancestor) (found : Option ClassFolded)
-    → option_map (λ (class : ClassFolded). known_with written class) (fitting wanted (length written.arguments) found) ≡ option_and_then (known_fits wanted written) found
-fits_known wanted written None = refl
-fits_known wanted written (Some class) = by (class_fits wanted (length written.arguments) class)
-  where
-    by : (b : Bool) → option_map (λ (c : ClassFolded). known_with written c) (cond b (Some class) None) ≡ cond b (Some (known_with written class)) None
-    by true = refl
-    by false = refl
+  abbrev pub extends : List Parent
+  extends = placed (extends_sort sig.sort) sig.extends
+
+  abbrev pub implements : List Parent
+  implements = placed sort.Interface sig.implements
+
+  abbrev pub add : SoFar → Parent → SoFar
+  add now parent = with_parent name now (known declared parent)
+
+  pub in_three : {E : Type 0} (result : Result (Unit {0}) E) (wanted : Sort) → wanted ≡ extends_sort sig.sort → second_map ≡ declared → third_map ≡ second_map
+      → one ≡ with_parents declared name none uses → two ≡ with_parents second_map name one (placed wanted sig.extends)
+      → OnOk result (three ≡ with_parents third_map name two implements) → OnOk result (three ≡ with_parents declared name none (parents sig))
+  in_three (Err e) wanted is same again first second third = tt
+  in_three (Ok done) wanted is same again first second third =
+      third
+      ∙ ap (λ m. with_parents m name two implements) (again ∙ same)
+      ∙ ap (λ b. with_parents declared name b implements) (second ∙ ap (λ w. with_parents second_map name one (placed w sig.extends)) is ∙ ap (λ m. with_parents m name one extends) same ∙ ap (λ b. with_parents declared name b extends) first)
+      ∙ sym (fold-append add none (uses ++ extends) implements ∙ ap (λ b. with_parents declared name b implements) (fold-append add none uses extends))

@@ -19,7 +19,7 @@ use Rattle.hack_decls.specs.declared.folded.ClassFolded.{ClassFolded}
 use Rattle.hack_decls.specs.declared.folded.Folded.{Folded}
 use Rattle.hack_decls.specs.declared.folded.Folded.TheVariants as folded
 use Rattle.hack_fold.specs.FromAbove.{IsDeclaredAbove}
-use Rattle.hack_fold.specs.FromParents.{from_parents, known, members_in}
+use Rattle.hack_fold.specs.inside.FromParents.{from_parents, known, members_in}
 use Rattle.hack_decls.specs.Names.{class_symbol}
 use Rattle.hack_fold.specs.Parents.{Shallows, extends_sort, parents, placed}
 use Rattle.hack_fold.specs.Line.{goes_on, is_cyclic, is_in, line, most_names, parent_symbols, unlisted, walk}

@@ -10,7 +10,7 @@ use Rattle.hack_types.specs.declared.shallow.Member.{Member}
 use Rattle.hack_types.specs.declared.shallow.MemberKind.{MemberKind}
 use Rattle.hack_types.specs.declared.shallow.MemberKind.TheVariants as kind
 use Rattle.hack_types.specs.declared.shallow.Sort.{Sort}
-use Rattle.hack_fold.specs.FromParents.{member_in, origin_in}
+use Rattle.hack_fold.specs.inside.FromParents.{member_in, origin_in}
 use Rattle.hack_fold.specs.Paths.{kind_with, member_with, put_in}
 use Rattle.hack_fold.specs.Walked.{better, with_member}
 use Rattle.hack_fold.proofs.Gather.{Chooses, all_rise, rises_mapped}

@@ -7,7 +7,7 @@ use Rattle.std.proofs.lemmas.Option.{slice_get-get_or}
 use Rattle.std.specs.List.Sorted.{IsStrictlySortedBy}
 use Rattle.hack_types.specs.MembersRise.{member_order, MembersRise}
 use Rattle.hack_types.specs.declared.shallow.Member.{Member}
-use Rattle.hack_fold.specs.Inside.{Takes, both_of, last_of, next_order}
+use Rattle.hack_fold.specs.inside.Merging.{Takes, both_of, last_of, next_order}
 use Rattle.hack_fold.specs.Walked.{better, with_member}
 use Rattle.hack_fold.proofs.Gather.{at, below_chosen, below_from, below_same, first_stays, turned, Below}
 use Rattle.hack_fold.proofs.MemberLaws.{members_choose}

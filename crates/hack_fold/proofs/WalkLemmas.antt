@@ -11,7 +11,7 @@ use Rattle.hack_types.specs.declared.ids.SymbolId.{SymbolId}
 use Rattle.hack_types.specs.declared.shallow.ClassSig.{ClassSig}
 use Rattle.hack_types.specs.declared.no_memory.NoMemory.{NoMemory}
 use Rattle.hack_fold.proofs.Tests.{cond_or, is_eq_back}
-use Rattle.hack_fold.specs.Inside.{Next, NextName, ahead_of, new_symbol}
+use Rattle.hack_fold.specs.inside.Walking.{Next, NextName, ahead_of, new_symbol}
 use Rattle.hack_fold.specs.Line.{goes_on, is_cyclic, is_in, is_parent, line, most_names, parent_symbols, reaches_itself, same_symbol, symbols_by, type_symbol, type_symbols, unlisted, walk}
 use Rattle.hack_fold.specs.Parents.{Shallows, class_by}
 use Rattle.hack_decls.specs.PlainMap.{symbol_order}

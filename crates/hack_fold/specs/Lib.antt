@@ -1,10 +1,7 @@
 pub mod FromAbove
-pub mod FromParents
-pub mod Gathered
-pub mod Inside
 pub mod Line
-pub mod OneByOne
 pub mod Parents
 pub mod Paths
 pub mod ShallowMap
 pub mod Walked
+pub mod inside

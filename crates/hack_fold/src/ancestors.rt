@@ -1,7 +1,7 @@
 // The ancestors of a class, gathered one after the other.
 ghost use Rattle.std.specs.Prelude.{◌≡◌, ◌∷◌, [], OnOk, map};
 ghost use Rattle.std.specs.List.{fold};
-ghost use Rattle.hack_fold.specs.Gathered.{AreNamed};
+ghost use Rattle.hack_fold.specs.inside.Gathered.{AreNamed};
 ghost use Rattle.hack_fold.specs.Paths.{ancestor_in};
 ghost use Rattle.hack_fold.specs.Walked.{with_ancestor};
 
@@ -68,8 +68,8 @@ impl Ancestors {
         arguments: &Items<HackType>,
     ) -> Result<(), NoMemory>
         requires { AreNamed self.old }
-        ensures added { OnOk result (self.new.list.items
-            ≡ with_ancestor self.old.list.items (record { name = name; arguments = arguments.now })) }
+        ensures added { OnOk result (self.new.list.items ≡ with_ancestor self.old.list.items
+            (record { name = name; arguments = arguments.now })) }
         ensures named { OnOk result (AreNamed self.new) }
     {
         if !self.names.insert(name)? {

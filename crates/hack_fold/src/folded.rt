@@ -2,7 +2,7 @@
 ghost use Rattle.std.specs.Prelude.{◌≡◌, IfOk, OnOk, true};
 ghost use Rattle.hack_types.specs.MembersRise.{MembersRise};
 ghost use Rattle.hack_decls.specs.Looks.{Keeps};
-ghost use Rattle.hack_fold.specs.FromParents.{from_parents};
+ghost use Rattle.hack_fold.specs.inside.FromParents.{from_parents};
 ghost use Rattle.hack_fold.specs.Walked.{FoldsTo};
 
 use crate::inherit::{Inherited, inherit};

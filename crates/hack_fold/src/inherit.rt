@@ -4,15 +4,15 @@ ghost use Rattle.hack_types.specs.MembersRise.{MembersRise};
 ghost use Rattle.hack_types.specs.declared.hack_type.HackType.{out-HackType};
 ghost use Rattle.hack_decls.specs.Looks.{Keeps};
 ghost use Rattle.hack_decls.specs.declared.folded.Ancestor.{Ancestor};
-ghost use Rattle.hack_fold.specs.FromParents.{Known, known, known_class, known_fits, member_in, origin_in};
-ghost use Rattle.hack_fold.specs.Gathered.{IsSound, so_far};
-ghost use Rattle.hack_fold.specs.OneByOne.{fitting, inherited, with_parent, with_parents};
-ghost use Rattle.hack_fold.specs.Parents.{extends_sort, named_by, placed, same_sort};
+ghost use Rattle.hack_fold.specs.inside.FromParents.{Known, known, known_class, known_fits, member_in, origin_in};
+ghost use Rattle.hack_fold.specs.inside.Gathered.{IsSound, so_far};
+ghost use Rattle.hack_fold.specs.inside.OneByOne.{fitting, inherited, with_parent, with_parents};
+ghost use Rattle.hack_fold.specs.Parents.{extends_sort, named_by, parents, placed, same_sort};
 
 use crate::ancestors::Ancestors;
 use crate::merge::merged;
 use crate::put::put_member;
-use hack_decls::{ClassFolded, DeclStop, Decls, Folded, copy_member};
+use hack_decls::{ClassFolded, DeclStop, Decls, Folded, copy_members};
 use hack_types::{ClassSig, HackType, Kind, Member, NameId, NoMemory, Sort, SymbolId};
 use sqlite_items::Items;
 use std::alloc::Global;
@@ -47,9 +47,7 @@ pub(crate) fn inherit<D: Decls>(
     if cyclic {
         return Ok(all);
     }
-    all.take_all(alloc, name, Sort::Trait, &sig.uses, decls)?;
-    all.take_all(alloc, name, extends_sort(sig.sort), &sig.extends, decls)?;
-    all.take_all(alloc, name, Sort::Interface, &sig.implements, decls)?;
+    all.take_parents(alloc, name, sig, decls)?;
     Ok(all)
 }
 
@@ -68,6 +66,25 @@ impl Inherited {
             members,
             partial,
         })
+    }
+
+    // What its parents give.
+    fn take_parents<D: Decls>(
+        &mut self,
+        alloc: Global,
+        child: NameId,
+        sig: &ClassSig,
+        decls: &mut D,
+    ) -> Result<(), DeclStop>
+        requires { IsSound self.old }
+        ensures takes { OnOk result (so_far self.new ≡ with_parents (D.state decls.old).map child
+            (so_far self.old) (parents sig.now)) }
+        ensures sound { OnOk result (IsSound self.new) }
+        ensures keeps { Keeps (D.state decls.old) result (D.state decls.new) }
+    {
+        self.take_all(alloc, child, Sort::Trait, &sig.uses, decls)?;
+        self.take_all(alloc, child, extends_sort(sig.sort), &sig.extends, decls)?;
+        self.take_all(alloc, child, Sort::Interface, &sig.implements, decls)
     }
 
     // What these parents give, which must be of this sort.
@@ -117,7 +134,7 @@ impl Inherited {
         Ok(self.take_found(alloc, child, wanted, name, arguments, found)?)
     }
 
-    // What is declared under a parent's name gives, if that parent is good.
+    // What is declared under a parent's name gives, if that parent is good; it isn't needed any more then.
     fn take_found(
         &mut self,
         alloc: Global,
@@ -133,7 +150,27 @@ impl Inherited {
             (known_class found))) }
         ensures sound { OnOk result (IsSound self.new) }
     {
-        match fitting(&found, wanted, arguments.len()) {
+        let taken = self.take_if_good(alloc, child, wanted, name, arguments, &found);
+        drop(found);
+        taken
+    }
+
+    fn take_if_good(
+        &mut self,
+        alloc: Global,
+        child: NameId,
+        wanted: Sort,
+        name: NameId,
+        arguments: &Items<HackType>,
+        found: &Option<Folded>,
+    ) -> Result<(), NoMemory>
+        requires { IsSound self.old }
+        ensures takes { OnOk result (so_far self.new ≡ with_parent child (so_far self.old)
+            (option_and_then (known_fits wanted (record { name = name; arguments = arguments.now }))
+            (known_class found.now))) }
+        ensures sound { OnOk result (IsSound self.new) }
+    {
+        match fitting(found, wanted, arguments.len()) {
             Some(class) => self.take_class(alloc, child, name, arguments, class),
             None => {
                 self.partial = true;
@@ -153,7 +190,10 @@ impl Inherited {
     ) -> Result<(), NoMemory>
         requires { IsSound self.old }
         ensures takes { OnOk result (so_far self.new ≡ with_parent child (so_far self.old)
-            (Some (record { written = record { name = name; arguments = arguments.now }; class = class.now }))) }
+            (Some (record {
+              written = record { name = name; arguments = arguments.now };
+              class = class.now;
+            }))) }
         ensures sound { OnOk result (IsSound self.new) }
     {
         self.ancestors
@@ -194,16 +234,6 @@ fn origin_in(child: NameId, sort: Sort, declared: NameId) -> NameId
         Sort::Trait => child,
         _ => declared,
     }
-}
-
-fn copy_members(alloc: Global, own: &[Member]) -> Result<Vec<Member>, NoMemory>
-    ensures { IfOk result (λ members. members.items ≡ own.now) }
-{
-    let mut members = Vec::with_capacity(alloc, own.len())?;
-    for member in own {
-        members.push(copy_member(alloc, member)?)?;
-    }
-    Ok(members)
 }
 
 // The name and the arguments of a parent; a type parameter and `_` have none.

@@ -14,7 +14,7 @@ use std::collections::BTreeMap;
 const MOST_NAMES: usize = 256;
 
 /// A symbol with all that stands above it.
-#[derive(Debug, Drop)]
+#[derive(Drop)]
 pub struct Line {
     /// The symbol, and then each parent with its own parents, in order, each once and at most 257 of them.
     pub names: Vec<SymbolId>,

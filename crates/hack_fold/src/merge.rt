@@ -1,8 +1,9 @@
 // Lists of members that rise by kind and name, merged.
 ghost use Rattle.std.specs.Prelude.{◌≡◌, ◌+◌, ◌<◌, IfOk, OnSome, reverse, vec_len};
 ghost use Rattle.std.specs.List.{fold};
+ghost use Rattle.std.specs.declared.cmp.Ordering.TheVariants.{Equal};
 ghost use Rattle.hack_types.specs.MembersRise.{kind_rank, member_order, MembersRise};
-ghost use Rattle.hack_fold.specs.Inside.{Takes, both_of, last_of, next_order};
+ghost use Rattle.hack_fold.specs.inside.Merging.{Takes, both_of, last_of, next_order};
 ghost use Rattle.hack_fold.specs.Walked.{better, with_member};
 
 use hack_types::{Member, MemberKind, NoMemory};
@@ -45,8 +46,28 @@ fn take_next(first: &mut Vec<Member>, second: &mut Vec<Member>) -> Option<Member
     match order_of_next(first.as_slice(), second.as_slice()) {
         Ordering::Less => second.pop(),
         Ordering::Greater => first.pop(),
-        Ordering::Equal => Some(better_of(first.pop()?, second.pop()?)),
+        Ordering::Equal => take_both(first, second),
     }
+}
+
+// Takes what comes next of both lists, where it has one place in both.
+fn take_both(first: &mut Vec<Member>, second: &mut Vec<Member>) -> Option<Member>
+    requires tied { next_order (last_of first.old.items) (last_of second.old.items) ≡ Equal }
+    requires first_rises { MembersRise (reverse first.old.items) }
+    requires second_rises { MembersRise (reverse second.old.items) }
+    ensures takes { Takes (both_of first.old.items second.old.items) result
+        (both_of first.new.items second.new.items) }
+    ensures first_rises { MembersRise (reverse first.new.items) }
+    ensures second_rises { MembersRise (reverse second.new.items) }
+    ensures shorter { OnSome result
+        (vec_len first.new + vec_len second.new < vec_len first.old + vec_len second.old) }
+{
+    let own = first.pop()?;
+    let Some(other) = second.pop() else {
+        drop(own);
+        return None;
+    };
+    Some(better_of(own, other))
 }
 
 // How the next of the second list stands to the next of the first.
@@ -83,8 +104,10 @@ fn better_of(first: Member, second: Member) -> Member
     ensures { result ≡ better first second }
 {
     if first.is_abstract && !second.is_abstract {
+        drop(first);
         second
     } else {
+        drop(second);
         first
     }
 }

@@ -1,6 +1,6 @@
 // Members and types of a parent, with the arguments put in that the child gives it.
 ghost use Rattle.std.specs.Prelude.{◌≡◌, IfOk, map};
-ghost use Rattle.hack_fold.specs.Paths.{kind_with, member_with, param_with, put_in, signature_with, type_param_with};
+ghost use Rattle.hack_fold.specs.Paths.{kind_with, member_with, put_in, signature_with};
 
 use hack_types::{
     HackType, Member, MemberKind, NameId, NoMemory, Param, Signature, SubstStop, TypeParam,
@@ -33,11 +33,7 @@ pub(crate) fn put_types(
 ) -> Result<Items<HackType>, NoMemory>
     ensures { IfOk result (λ put. put ≡ map (put_in arguments.now) types.now) }
 {
-    let mut put = Vec::with_capacity(alloc, types.len())?;
-    for ty in types.as_slice() {
-        put.push(put_type(alloc, ty, arguments)?)?;
-    }
-    Ok(Items::from_vec(put))
+    put_all(alloc, types, arguments)
 }
 
 /// The member with the arguments put in, from this class.
@@ -82,8 +78,8 @@ fn put_signature(
 ) -> Result<Signature, NoMemory>
     ensures { IfOk result (λ put. put ≡ signature_with (put_in arguments.now) sig.now) }
 {
-    let type_params = put_type_params(alloc, &sig.type_params, arguments)?;
-    let params = put_params(alloc, &sig.params, arguments)?;
+    let type_params = put_all(alloc, &sig.type_params, arguments)?;
+    let params = put_all(alloc, &sig.params, arguments)?;
     let result_type = put_type(alloc, &sig.result, arguments)?;
     Ok(Signature {
         type_params,
@@ -92,42 +88,68 @@ fn put_signature(
     })
 }
 
-fn put_type_params(
+fn put_all<T: Put>(
     alloc: Global,
-    type_params: &Items<TypeParam>,
+    items: &Items<T>,
     arguments: &[HackType],
-) -> Result<Items<TypeParam>, NoMemory>
-    ensures { IfOk result (λ put.
-        put ≡ map (type_param_with (put_in arguments.now)) type_params.now) }
+) -> Result<Items<T>, NoMemory>
+    ensures { IfOk result (λ put. put ≡ map (T.with_put arguments.now) items.now) }
 {
-    let mut put = Vec::with_capacity(alloc, type_params.len())?;
-    for param in type_params.as_slice() {
-        let upper = put_types(alloc, &param.upper, arguments)?;
-        let lower = put_types(alloc, &param.lower, arguments)?;
-        put.push(TypeParam {
-            name: param.name,
-            variance: param.variance,
-            upper,
-            lower,
-        })?;
+    let mut put = Vec::with_capacity(alloc, items.len())?;
+    for item in items.as_slice() {
+        put.push(item.put(alloc, arguments)?)?;
     }
     Ok(Items::from_vec(put))
 }
 
-fn put_params(
-    alloc: Global,
-    params: &Items<Param>,
-    arguments: &[HackType],
-) -> Result<Items<Param>, NoMemory>
-    ensures { IfOk result (λ put. put ≡ map (param_with (put_in arguments.now)) params.now) }
-{
-    let mut put = Vec::with_capacity(alloc, params.len())?;
-    for param in params.as_slice() {
-        let ty = put_type(alloc, &param.ty, arguments)?;
-        put.push(Param {
-            ty,
-            optional: param.optional,
-        })?;
+// What lists of it have arguments put in by.
+trait Put: Drop {
+    ghost use Rattle.std.specs.Prelude.{◌≡◌, IfOk, List};
+    ghost use Rattle.hack_types.specs.declared.hack_type.HackType.{HackType};
+
+    ghost with_put: { List HackType → Self → Self };
+
+    fn put(&self, alloc: Global, arguments: &[HackType]) -> Result<Self, NoMemory>
+        ensures { IfOk result (λ put. put ≡ with_put arguments.now self.now) };
+}
+
+impl Put for HackType {
+    ghost use Rattle.hack_fold.specs.Paths.{put_in};
+
+    ghost with_put = { put_in };
+
+    fn put(&self, alloc: Global, arguments: &[HackType]) -> Result<HackType, NoMemory> {
+        put_type(alloc, self, arguments)
     }
-    Ok(Items::from_vec(put))
+}
+
+impl Put for TypeParam {
+    ghost use Rattle.hack_fold.specs.Paths.{put_in, type_param_with};
+
+    ghost with_put = { λ arguments. type_param_with (put_in arguments) };
+
+    fn put(&self, alloc: Global, arguments: &[HackType]) -> Result<TypeParam, NoMemory> {
+        let upper = put_types(alloc, &self.upper, arguments)?;
+        let lower = put_types(alloc, &self.lower, arguments)?;
+        Ok(TypeParam {
+            name: self.name,
+            variance: self.variance,
+            upper,
+            lower,
+        })
+    }
+}
+
+impl Put for Param {
+    ghost use Rattle.hack_fold.specs.Paths.{param_with, put_in};
+
+    ghost with_put = { λ arguments. param_with (put_in arguments) };
+
+    fn put(&self, alloc: Global, arguments: &[HackType]) -> Result<Param, NoMemory> {
+        let ty = put_type(alloc, &self.ty, arguments)?;
+        Ok(Param {
+            ty,
+            optional: self.optional,
+        })
+    }
 }

@@ -1,7 +1,7 @@
 // The walk that lists the names above a symbol.
 ghost use Rattle.std.specs.Prelude.{◌≡◌, ◌++◌, ◌∷◌, [], IfOk, OnOk, true, option_copied};
 ghost use Rattle.std.specs.BTreeSet as sorted;
-ghost use Rattle.hack_fold.specs.Inside.{Next, NextIn, NextName, ahead_of, new_symbol};
+ghost use Rattle.hack_fold.specs.inside.Walking.{Next, NextIn, NextName, ahead_of, new_symbol};
 ghost use Rattle.hack_fold.specs.Line.{line, parent_symbols, type_symbol};
 ghost use Rattle.hack_fold.specs.Parents.{class_by};
 ghost use Rattle.hack_decls.specs.PlainMap.{symbol_order};
@@ -130,7 +130,8 @@ fn first_unlisted<'a>(
 
 // What the type names, if that isn't listed.
 fn unlisted_symbol(ty: &HackType, listed: &BTreeSet<SymbolId>) -> Option<SymbolId>
-    ensures { result ≡ new_symbol (λ t. sorted.contains symbol_order listed.now t) (type_symbol ty.now) }
+    ensures { result
+        ≡ new_symbol (λ t. sorted.contains symbol_order listed.now t) (type_symbol ty.now) }
 {
     let symbol = type_symbol(ty)?;
     if listed.contains(&symbol) {

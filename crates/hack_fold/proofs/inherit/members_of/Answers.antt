@@ -1,7 +1,7 @@
 use Rattle.std.proofs.Common.{◌≡◌, map, take, sym, ap, subst, ◌∙◌, arith}
 use Rattle.std.proofs.lemmas.List.{take_all}
 use Rattle.hack_types.specs.MembersRise.{MembersRise}
-use Rattle.hack_fold.specs.FromParents.{member_in}
+use Rattle.hack_fold.specs.inside.FromParents.{member_in}
 use Rattle.hack_fold.proofs.MemberLaws.{given_rise}
 use Rattle.hack_fold.proofs.inherit.members_of.Goals as goal
 

@@ -1,5 +1,5 @@
 use Rattle.std.proofs.Common.{◌≡◌, map, take}
-use Rattle.hack_fold.specs.FromParents.{member_in}
+use Rattle.hack_fold.specs.inside.FromParents.{member_in}
 use Rattle.hack_fold.proofs.inherit.members_of.Given as goal
 
 abbrev pub invariant-loop-member : goal.invariant-loop-member

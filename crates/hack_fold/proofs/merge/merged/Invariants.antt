@@ -1,6 +1,6 @@
 use Rattle.std.proofs.Common.{◌≡◌, ◌+◌, ◌++◌, fold, length, reverse}
 use Rattle.hack_types.specs.MembersRise.{MembersRise}
-use Rattle.hack_fold.specs.Inside.{both_of}
+use Rattle.hack_fold.specs.inside.Merging.{both_of}
 use Rattle.hack_fold.specs.Walked.{with_member}
 use Rattle.hack_fold.proofs.merge.merged.Given as goal
 

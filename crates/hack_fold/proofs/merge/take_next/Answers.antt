@@ -1,6 +1,5 @@
-use Rattle.std.proofs.Common.{Some, Less, Greater, Equal, sym, ap, ◌∷◌, ◌∙◌}
-use Rattle.hack_fold.specs.Inside.{both_of}
-use Rattle.hack_fold.proofs.MergeLemmas.{left_rises, none_taken, order_told, takes_both, takes_first, takes_second}
+use Rattle.std.proofs.Common.{Less, Greater, Equal, sym}
+use Rattle.hack_fold.proofs.MergeLemmas.{left_rises, none_taken, order_told, takes_first, takes_second}
 use Rattle.hack_fold.proofs.merge.take_next.Goals as goal
 
 pub returns-in-Less-clause-takes : goal.returns-in-Less-clause-takes
@@ -24,20 +23,6 @@ pub returns-in-Greater-clause-first_rises : goal.returns-in-Greater-clause-first
 returns-in-Greater-clause-first_rises c =
     left_rises c.args.first.now.items c.pop-in-Greater.new.self.items c.pop-in-Greater.result c.pop-in-Greater.ensures.items c.requires.first_rises
 
-pub returns-in_ok-pop-in-Equal-2-clause-takes : goal.returns-in_ok-pop-in-Equal-2-clause-takes
-returns-in_ok-pop-in-Equal-2-clause-takes c =
-    let first = c.args.first.now.items in
-    let second = c.args.second.now.items in
-    let left = c.pop-in-Equal.new.self.items in
-    let rest = c.pop-in-Equal-2.new.self.items in
-    takes_both first second left rest c.in_ok-pop-in-Equal.field-0 c.in_ok-pop-in-Equal-2.field-0 c.in_ok-pop-in-Equal.ensures.items c.in_ok-pop-in-Equal-2.ensures.items
-    (order_told first second c.as_slice.result.now c.as_slice-2.result.now Equal c.in-Equal.ensures c.as_slice.ensures.value c.as_slice-2.ensures.value) c.requires.second_rises
-    ∙ ap (λ m. m ∷ both_of left rest) (sym c.better_of.ensures)
-
-pub returns-in_ok-pop-in-Equal-2-clause-first_rises : goal.returns-in_ok-pop-in-Equal-2-clause-first_rises
-returns-in_ok-pop-in-Equal-2-clause-first_rises c =
-    left_rises c.args.first.now.items c.pop-in-Equal.new.self.items (Some c.in_ok-pop-in-Equal.field-0) c.in_ok-pop-in-Equal.ensures.items c.requires.first_rises
-
-pub returns-in_ok-pop-in-Equal-2-clause-second_rises : goal.returns-in_ok-pop-in-Equal-2-clause-second_rises
-returns-in_ok-pop-in-Equal-2-clause-second_rises c =
-    left_rises c.args.second.now.items c.pop-in-Equal-2.new.self.items (Some c.in_ok-pop-in-Equal-2.field-0) c.in_ok-pop-in-Equal-2.ensures.items c.requires.second_rises
+pub take_both-requires-clause-tied : goal.take_both-requires-clause-tied
+take_both-requires-clause-tied c =
+    order_told c.args.first.now.items c.args.second.now.items c.as_slice.result.now c.as_slice-2.result.now Equal c.in-Equal.ensures c.as_slice.ensures.value c.as_slice-2.ensures.value

@@ -1,6 +1,6 @@
 use Rattle.std.proofs.Common.{◌≡◌, length}
 use Rattle.std.specs.BTreeSet as sorted
-use Rattle.hack_fold.specs.Inside.{ahead_of}
+use Rattle.hack_fold.specs.inside.Walking.{ahead_of}
 use Rattle.hack_fold.specs.Line.{unlisted}
 use Rattle.hack_decls.specs.PlainMap.{symbol_order}
 use Rattle.hack_fold.proofs.walk.next_unlisted.Given as goal

@@ -1,5 +1,5 @@
 use Rattle.std.proofs.Common.{◌++◌, sym, ap}
-use Rattle.hack_fold.specs.Inside.{ahead_of}
+use Rattle.hack_fold.specs.inside.Walking.{ahead_of}
 use Rattle.hack_fold.specs.ShallowMap.{shallows_of}
 use Rattle.hack_fold.proofs.WalkLemmas.{no_parents, parents_ahead}
 use Rattle.hack_fold.proofs.walk.push_parents.Goals as goal

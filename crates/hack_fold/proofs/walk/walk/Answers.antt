@@ -2,7 +2,7 @@ use Rattle.std.proofs.Common.{◌≡◌, false, length, sym, ap, subst, ◌∙�
 use Rattle.std.specs.BTreeSet as sorted
 use Rattle.hack_types.specs.declared.ids.SymbolId.{SymbolId}
 use Rattle.hack_decls.specs.PlainMap.{symbol_order}
-use Rattle.hack_fold.specs.Inside.{NextName, ahead_of}
+use Rattle.hack_fold.specs.inside.Walking.{NextName, ahead_of}
 use Rattle.hack_fold.specs.Line.{is_in}
 use Rattle.hack_fold.specs.ShallowMap.{shallows_of}
 use Rattle.hack_fold.proofs.WalkLemmas.{Stands, begins_at, listed_more, turn}

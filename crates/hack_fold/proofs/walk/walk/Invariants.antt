@@ -1,7 +1,7 @@
 use Rattle.std.proofs.Common.{◌≡◌, ◌-◌, length}
 use Rattle.std.specs.BTreeSet as sorted
 use Rattle.hack_types.specs.declared.ids.SymbolId.{SymbolId}
-use Rattle.hack_fold.specs.Inside.{ahead_of}
+use Rattle.hack_fold.specs.inside.Walking.{ahead_of}
 use Rattle.hack_fold.specs.Line.{is_in}
 use Rattle.hack_decls.specs.PlainMap.{symbol_order}
 use Rattle.hack_fold.specs.ShallowMap.{shallows_of}

@@ -1,5 +1,5 @@
 use Rattle.std.proofs.Common.{◌≡◌, fold, map, take}
-use Rattle.hack_fold.specs.Gathered.{AreNamed}
+use Rattle.hack_fold.specs.inside.Gathered.{AreNamed}
 use Rattle.hack_fold.specs.Paths.{ancestor_in}
 use Rattle.hack_fold.specs.Walked.{with_ancestor}
 use Rattle.hack_fold.proofs.ancestors.Ancestors.add.Given as goal

@@ -1,7 +1,7 @@
 use Rattle.std.proofs.Common.{◌≡◌, Ok, take}
 use Rattle.hack_decls.specs.Looks.{Keeps}
-use Rattle.hack_fold.specs.Gathered.{IsSound, so_far}
-use Rattle.hack_fold.specs.OneByOne.{with_parents}
+use Rattle.hack_fold.specs.inside.Gathered.{IsSound, so_far}
+use Rattle.hack_fold.specs.inside.OneByOne.{with_parents}
 use Rattle.hack_fold.specs.Parents.{placed}
 use Rattle.hack_fold.proofs.inherit.Inherited.take_all.Given as goal
 

@@ -7,7 +7,7 @@ use Rattle.hack_types.specs.declared.shallow.Sort.{Sort}
 use Rattle.hack_decls.specs.DeclState.{Map}
 use Rattle.hack_decls.specs.declared.folded.Ancestor.{Ancestor}
 use Rattle.hack_decls.specs.declared.folded.ClassFolded.{ClassFolded}
-use Rattle.hack_fold.specs.FromParents.{Known, ancestors_in, class_fits, known, members_in}
+use Rattle.hack_fold.specs.inside.FromParents.{Known, ancestors_in, class_fits, known, members_in}
 use Rattle.hack_fold.specs.Parents.{Parent, parents}
 use Rattle.hack_fold.specs.Walked.{with_ancestor, with_member}
 

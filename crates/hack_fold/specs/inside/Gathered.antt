@@ -6,7 +6,7 @@ use Rattle.std.specs.Ordering.{nat_cmp}
 use Rattle.hack_types.specs.MembersRise.{MembersRise}
 use Rattle.hack_fold.specs.declared.ancestors.Ancestors.{Ancestors}
 use Rattle.hack_fold.specs.declared.inherit.Inherited.{Inherited}
-use Rattle.hack_fold.specs.OneByOne.{SoFar}
+use Rattle.hack_fold.specs.inside.OneByOne.{SoFar}
 
 -- the set has the names of the ancestors
 abbrev pub AreNamed : Ancestors → Type 0

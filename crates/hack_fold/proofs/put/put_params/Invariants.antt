@@ -1,6 +1,0 @@
-use Rattle.std.proofs.Common.{◌≡◌, map, take}
-use Rattle.hack_fold.specs.Paths.{param_with, put_in}
-use Rattle.hack_fold.proofs.put.put_params.Given as goal
-
-abbrev pub invariant-loop-param : goal.invariant-loop-param
-invariant-loop-param l = l.put.items ≡ map (param_with (put_in l.arguments)) (take l.param-index l.param-items)

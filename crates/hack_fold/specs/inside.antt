@@ -1,0 +1,5 @@
+pub mod FromParents
+pub mod Gathered
+pub mod Merging
+pub mod OneByOne
+pub mod Walking
