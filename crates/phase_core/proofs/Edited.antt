@@ -19,7 +19,7 @@ use Rattle.phase_core.specs.Edges.{Edges, HasFold, fold_edge, check_edge}
 use Rattle.phase_core.specs.States.{unclaimed, is_claimed}
 use Rattle.phase_core.specs.Edits.{IsEvicted, BecomesStale, Edited}
 use Rattle.phase_core.specs.Reached.{IsReach}
-use Rattle.phase_core.specs.InsideEdits.{Symbols, LooksInto, Refreshed, StaysEdge, turn}
+use Rattle.phase_core.specs.InsideEdits.{Symbols, LooksInto, Refreshed, IsOutdated, turn, RecordsLeft, VerdictsLeft, Left}
 use Rattle.phase_core.proofs.Reached.{reaches_further}
 
 -- ---- paths the other way round
@@ -36,6 +36,10 @@ evicted_by edges back P starts r turned begun is s = (
       (from.0, (begun from.0).0 from.1, reversed (HasFold back) (HasFold edges) (λ a b k. (turned a b).0 k) from.2.0 from.0 s from.2.1),
   λ h. (is.reached s).1 (h.0, (begun h.0).1 h.1, reversed (HasFold edges) (HasFold back) (λ a b k. (turned b a).1 k) h.2.0 s h.0 h.2.1),
 )
+
+pub evicted_from : (P : SymbolId → Type 0) (R : SymbolId → SymbolId → Type 0) (ends : List SymbolId) (b : Bool) (s : SymbolId) → ((t : SymbolId) → Contains ends t ↔ P t) → (b ≡ true) ↔ ((t : SymbolId) × Contains ends t × R s t)
+    → (b ≡ true) ↔ ((t : SymbolId) × P t × R s t)
+evicted_from P R ends b s are both = (λ h. let r = both.0 h in (r.0, (are r.0).0 r.1, r.2), λ h. both.1 (h.0, (are h.0).1 h.1, h.2))
 
 pub turned_is : (edges : Edges) (list : List CoreEdge) → ((e : CoreEdge) → Contains list e ↔ (set.contains edges e ≡ true)) → (back : Edges) (s t : SymbolId)
     → (set.contains back (fold_edge s t) ≡ true) ↔ ((e : CoreEdge) × Contains list e × (e.fold ≡ true) × (turn e ≡ fold_edge s t)) → HasFold back s t ↔ HasFold edges t s
@@ -64,21 +68,42 @@ pub without_claimed : (claims : Symbols) (records rest : finite.FinMap symbol_or
 without_claimed claims records rest are left s =
     left s ∙ ap (λ b. cond b None (finite.get records s)) (same_bool _ _ (are s)) ∙ unclaimed_is (finite.get records s)
 
+pub records_by : (records rest left : finite.FinMap symbol_order CoreRecord) (evicted : Symbols) → ((s : SymbolId) → finite.get rest s ≡ unclaimed (finite.get records s))
+    → ((s : SymbolId) → finite.get left s ≡ cond (set.contains evicted s) None (finite.get rest s)) → RecordsLeft records evicted left
+records_by records rest left evicted unclaims gets s = gets s ∙ ap (cond (set.contains evicted s) None) (unclaims s)
+
+-- ---- verdicts that aren't outdated
+
 nothing : (b : Bool) → cond {A = Option CoreVerdict} b None None ≡ None
 nothing true = refl
 nothing false = refl
-
--- ---- the whole
 
 not_true : (b : Bool) → ¬ (b ≡ true) → b ≡ false
 not_true true never = absurd (never refl)
 not_true false never = refl
 
-module _ (state next : CoreState) (world : World) (evicted refreshed outdated : Symbols) (records : finite.FinMap symbol_order CoreRecord)
+not_in : {P : Type 0} (b : Bool) → (b ≡ true) ↔ P → ¬ P → b ≡ false
+not_in b both never = not_true b (λ h. never (both.0 h))
+
+not_P : {P : Type 0} {b : Bool} → (b ≡ true) ↔ P → b ≡ false → ¬ P
+not_P both never p = let e : false ≡ true = sym never ∙ both.1 p in cc
+
+pub verdicts_by : (verdicts left : finite.FinMap symbol_order CoreVerdict) (world : World) (refreshed outdated : Symbols) → ((u : SymbolId) → (set.contains outdated u ≡ true) ↔ (IsSome (finite.get verdicts u) × IsOutdated world refreshed u))
+    → ((u : SymbolId) → finite.get left u ≡ cond (set.contains outdated u) None (finite.get verdicts u)) → VerdictsLeft verdicts world refreshed left
+verdicts_by verdicts left world refreshed outdated are gets = record {
+  gone = λ u why. by u why (finite.get verdicts u) refl;
+  kept = λ u fresh. gets u ∙ ap (λ b. cond b None (finite.get verdicts u)) (not_in (set.contains outdated u) (are u) (λ h. fresh h.1));
+}
+  where
+    by : (u : SymbolId) → IsOutdated world refreshed u → (o : Option CoreVerdict) → finite.get verdicts u ≡ o → finite.get left u ≡ None
+    by u why None e = gets u ∙ ap (cond (set.contains outdated u) None) e ∙ nothing (set.contains outdated u)
+    by u why (Some v) e = gets u ∙ ap (λ b. cond b None (finite.get verdicts u)) ((are u).1 (ap is_some e, why))
+
+-- ---- the whole
+
+module _ (state next : CoreState) (world : World) (evicted refreshed : Symbols)
     (are_evicted : (s : SymbolId) → (set.contains evicted s ≡ true) ↔ IsEvicted state world s)
-    (are_refreshed : (u : SymbolId) → (set.contains refreshed u ≡ true) ↔ Refreshed state world evicted u)
-    (are_outdated : (u : SymbolId) → (set.contains outdated u ≡ true) ↔ (IsSome (finite.get state.verdicts u) × ((¬ IsDeclared world u) ⊎ (set.contains refreshed u ≡ true))))
-    (left_records : (s : SymbolId) → finite.get records s ≡ unclaimed (finite.get state.records s)) where
+    (are_refreshed : (u : SymbolId) → (set.contains refreshed u ≡ true) ↔ Refreshed state world evicted u) where
   fresh_is : (u : SymbolId) → (set.contains refreshed u ≡ true) ↔ BecomesStale state world u
   fresh_is u = (
     λ h.
@@ -87,44 +112,28 @@ module _ (state next : CoreState) (world : World) (evicted refreshed outdated : 
     λ h. (are_refreshed u).1 (h.0, elim h.1 [ inl told ↦ inl told | inr looks ↦ inr (looks.0, (are_evicted looks.0).1 looks.1, looks.2) ]),
   )
 
-  not_in : {P : Type 0} (b : Bool) → (b ≡ true) ↔ P → ¬ P → b ≡ false
-  not_in b both never = not_true b (λ h. never (both.0 h))
-
-  not_P : {P : Type 0} {b : Bool} → (b ≡ true) ↔ P → b ≡ false → ¬ P
-  not_P both never p = let e : false ≡ true = sym never ∙ both.1 p in cc
-
-  pub edited_by : next.world ≡ world → ((s : SymbolId) → finite.get next.records s ≡ cond (set.contains evicted s) None (finite.get records s))
-      → ((e : CoreEdge) → (set.contains next.edges e ≡ true) ↔ ((set.contains state.edges e ≡ true) × StaysEdge world evicted refreshed e))
-      → ((u : SymbolId) → (set.contains next.stale u ≡ true) ↔ (IsDeclared world u × ((set.contains state.stale u ≡ true) ⊎ (set.contains refreshed u ≡ true))))
-      → ((u : SymbolId) → finite.get next.verdicts u ≡ cond (set.contains outdated u) None (finite.get state.verdicts u)) → next.workers ≡ state.workers → next.raised ≡ state.raised
-      → Edited state world next
-  edited_by world_is gets stays stale left workers raised = record {
-    world_is = world_is;
-    records_gone = λ s h. gets s ∙ ap (λ b. cond b None (finite.get records s)) ((are_evicted s).1 h);
-    records_kept = λ s kept. gets s ∙ ap (λ b. cond b None (finite.get records s)) (not_in (set.contains evicted s) (are_evicted s) kept) ∙ left_records s;
+  pub edited_by : Left state world evicted refreshed next → Edited state world next
+  edited_by left = record {
+    world_is = left.world_is;
+    records_gone = λ s h. left.records s ∙ ap (λ b. cond b None (unclaimed (finite.get state.records s))) ((are_evicted s).1 h);
+    records_kept = λ s kept. left.records s ∙ ap (λ b. cond b None (unclaimed (finite.get state.records s))) (not_in (set.contains evicted s) (are_evicted s) kept);
     folds = λ s t. (
-      λ h. let k = (stays (fold_edge s t)).0 h in (k.0, k.1.0, not_P (are_evicted s) k.1.1),
-      λ h. (stays (fold_edge s t)).1 (h.0, (h.1, not_in (set.contains evicted s) (are_evicted s) h.2)),
+      λ h. let k = (left.edges (fold_edge s t)).0 h in (k.0, k.1.0, not_P (are_evicted s) k.1.1),
+      λ h. (left.edges (fold_edge s t)).1 (h.0, (h.1, not_in (set.contains evicted s) (are_evicted s) h.2)),
     );
     checks = λ u t. (
-      λ h. let k = (stays (check_edge u t)).0 h in (k.0, k.1.0, not_P (fresh_is u) k.1.1),
-      λ h. (stays (check_edge u t)).1 (h.0, (h.1, not_in (set.contains refreshed u) (fresh_is u) h.2)),
+      λ h. let k = (left.edges (check_edge u t)).0 h in (k.0, k.1.0, not_P (fresh_is u) k.1.1),
+      λ h. (left.edges (check_edge u t)).1 (h.0, (h.1, not_in (set.contains refreshed u) (fresh_is u) h.2)),
     );
     stale = λ u. (
-      λ h. let k = (stale u).0 h in (k.0, elim k.1 [ inl old ↦ inl old | inr new ↦ inr ((fresh_is u).0 new) ]),
-      λ h. (stale u).1 (h.0, elim h.1 [ inl old ↦ inl old | inr new ↦ inr ((fresh_is u).1 new) ]),
+      λ h. let k = (left.stale u).0 h in (k.0, elim k.1 [ inl old ↦ inl old | inr new ↦ inr ((fresh_is u).0 new) ]),
+      λ h. (left.stale u).1 (h.0, elim h.1 [ inl old ↦ inl old | inr new ↦ inr ((fresh_is u).1 new) ]),
     );
-    verdicts_gone = λ u h. gone u (elim h [ inl never ↦ inl never | inr becomes ↦ inr ((fresh_is u).1 becomes) ]) (finite.get state.verdicts u) refl;
-    verdicts_kept = λ u there fresh.
-        left u ∙ ap (λ b. cond b None (finite.get state.verdicts u))
-        (not_in (set.contains outdated u) (are_outdated u) (λ h. elim h.1 [ inl never ↦ never there | inr new ↦ fresh ((fresh_is u).0 new) ]));
-    workers = workers;
-    raised = raised;
+    verdicts_gone = λ u h. left.verdicts.gone u (elim h [ inl never ↦ inl never | inr becomes ↦ inr ((fresh_is u).1 becomes) ]);
+    verdicts_kept = λ u there fresh. left.verdicts.kept u (λ h. elim h [ inl never ↦ never there | inr new ↦ fresh ((fresh_is u).0 new) ]);
+    workers = left.workers;
+    raised = left.raised;
   }
-    where
-      gone : (u : SymbolId) → (¬ IsDeclared world u) ⊎ (set.contains refreshed u ≡ true) → (o : Option CoreVerdict) → finite.get state.verdicts u ≡ o → finite.get next.verdicts u ≡ None
-      gone u why None e = left u ∙ ap (cond (set.contains outdated u) None) e ∙ nothing (set.contains outdated u)
-      gone u why (Some v) e = left u ∙ ap (λ b. cond b None (finite.get state.verdicts u)) ((are_outdated u).1 (ap is_some e, why))
 
 -- ---- the sets of an edit
 

@@ -4,6 +4,7 @@ use Rattle.std.specs.Prelude.{Contains, is_some}
 use Rattle.std.specs.FinMap as finite
 use Rattle.std.specs.FinMap.{get-empty}
 use Rattle.std.specs.FinSet as set
+use Rattle.std.proofs.lemmas.List.{take_all}
 use Rattle.hack_types.specs.declared.ids.SymbolId.{SymbolId}
 use Rattle.phase_core.specs.declared.state.CoreSeen.{CoreSeen}
 use Rattle.phase_core.specs.declared.closure.Reached.{Reached}
@@ -63,6 +64,11 @@ module _ (world : World) (symbols : List SymbolId) where
                   ]
             ];
       })
+
+  pub imaged_end : (i : ℕ) (image : Image) → length symbols ≤ i → Imaged world symbols i image → Imaged world symbols (length symbols) image
+  imaged_end i image l so_far =
+      let whole : length symbols ≤ length symbols = omega arith in
+      record { only = so_far.only; all = λ t h. so_far.all t (in_whole symbols i l t (subst (λ ys. Contains ys t) (take_all (length symbols) symbols whole) h)) }
 
   pub imaged_whole : (i : ℕ) (s : SymbolId) (r : Reached) (image : Image) → length symbols ≤ i → IsReach (IsParent world) (s ∷ []) r → symbols ≡ r.symbols.items → Imaged world symbols i image → IsImage world s image
   imaged_whole i s r image l is lists so_far = record {

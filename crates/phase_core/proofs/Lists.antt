@@ -1,6 +1,6 @@
 -- What the first items of a list are.
-use Rattle.std.proofs.Common.{◌≡◌, ◌⊎◌, ◌<◌, ◌≤◌, sym, subst, ℕ, ◌+◌, List, [], ◌∷◌, take, length, get_or, arith, zero, suc, ap, Some, None}
-use Rattle.std.specs.Prelude.{Contains, slice_get}
+use Rattle.std.proofs.Common.{◌≡◌, ◌⊎◌, ◌<◌, ◌≤◌, refl, sym, ◌∙◌, subst, ℕ, ◌+◌, List, [], ◌∷◌, ◌++◌, take, length, get_or, arith, zero, suc, ap, Some, None}
+use Rattle.std.specs.Prelude.{Contains, slice_get, replicate}
 use Rattle.std.proofs.lemmas.List.{take_more, take_all}
 use Rattle.std.proofs.lemmas.List.Elements.{Contains-append_left, Contains-push, Contains-push_cases}
 
@@ -33,3 +33,12 @@ module _ {X : Type 0} where
 
   pub in_at : (xs : List X) (i : ℕ) (x : X) → i < length xs → x ≡ get_or xs i x → Contains xs x
   in_at xs i x l is = (i, l, sym is)
+
+  -- a list that grows to a copy
+  pub copied_more : (xs ys zs : List X) (i : ℕ) (x v : X) → i < length xs → x ≡ get_or xs i x → v ≡ x → ys ≡ take i xs → zs ≡ ys ++ v ∷ [] → zs ≡ take (i + 1) xs
+  copied_more xs ys zs i x v l is same so_far put = put ∙ (λ j. so_far j ++ (same ∙ is) j ∷ []) ∙ sym (take_more xs i x l)
+
+  -- one more of the same
+  pub replicate_more : (n : ℕ) (x : X) → replicate n x ++ x ∷ [] ≡ replicate (suc n) x
+  replicate_more zero x = refl
+  replicate_more (suc n) x = ap (λ ys. x ∷ ys) (replicate_more n x)

@@ -1,9 +1,12 @@
 -- Runs, event by event.
-use Rattle.std.proofs.Common.{◌≡◌, ◌<◌, ◌≤◌, inl, inr, refl, sym, ap, ◌∙◌, subst, ℕ, ◌+◌, List, [], ◌∷◌, ◌++◌, take, length, get_or, arith, zero, suc, Option, Some, None}
+use Rattle.std.proofs.Common.{◌≡◌, ◌<◌, ◌≤◌, inl, inr, refl, sym, ap, ◌∙◌, subst, ℕ, ◌+◌, List, [], ◌∷◌, ◌++◌, take, length, get_or, arith, zero, suc, Bool, true, false}
+use Rattle.std.specs.Bool.{then_some}
+use Rattle.std.specs.Prelude.{MatchOption}
 use Rattle.std.proofs.lemmas.List.{take_more, take_all}
 use Rattle.phase_core.specs.declared.event.Event.{Event}
 use Rattle.phase_core.specs.declared.state.CoreState.{CoreState}
 use Rattle.phase_core.specs.Steps.{HasCase, HasEffect, Steps, Runs, IsStuck}
+use Rattle.phase_core.specs.Acts.{Acts, ActsAll}
 
 pub run_more : (first : List Event) (event : Event) (state middle end : CoreState) → Runs state first middle → HasCase middle event → HasEffect middle event end → Runs state (first ++ event ∷ []) end
 run_more [] event state middle end h case effect = (end, subst (λ s. HasCase s event) (sym h) case, subst (λ s. HasEffect s event end) (sym h) effect, refl)
@@ -31,9 +34,24 @@ run_stuck events i event state middle l is h none =
     let cut = parted events i event l is in
     subst (IsStuck state) (sym cut.1) (stuck_behind (take i events) cut.0 event state middle h none)
 
--- an answer with a state, and one with none
-pub answered : (state : CoreState) (event : Event) (answer : Option CoreState) (next : CoreState) → Steps state event answer → answer ≡ Some next → HasCase state event × HasEffect state event next
-answered state event answer next h is = subst (λ (z : Option CoreState). Steps state event z) is h
+-- an event that was done, and one that wasn't
+pub acted : (state next : CoreState) (event : Event) (b : Bool) → b ≡ true → Acts (HasCase state event) (HasEffect state event) next b → HasCase state event × HasEffect state event next
+acted state next event b is h = subst (Acts (HasCase state event) (HasEffect state event) next) is h
 
-pub unanswered : (state : CoreState) (event : Event) (answer : Option CoreState) → Steps state event answer → answer ≡ None → ¬ HasCase state event
-unanswered state event answer h is = subst (λ (z : Option CoreState). Steps state event z) is h
+pub refused : (state next : CoreState) (event : Event) (b : Bool) → b ≡ false → Acts (HasCase state event) (HasEffect state event) next b → ¬ HasCase state event
+refused state next event b is h = subst (Acts (HasCase state event) (HasEffect state event) next) is h
+
+-- the answers
+pub acts_answers : (state copy next : CoreState) (event : Event) (b : Bool) → copy ≡ state → Acts (HasCase copy event) (HasEffect copy event) next b → Steps state event (then_some b next)
+acts_answers state copy next event b is h = by b (subst (λ (s : CoreState). Acts (HasCase s event) (HasEffect s event) next b) is h)
+  where
+    by : (b : Bool) → Acts (HasCase state event) (HasEffect state event) next b → Steps state event (then_some b next)
+    by true h = h
+    by false h = h
+
+pub ran : (begin state next : CoreState) (events : List Event) (b : Bool) → begin ≡ state → ActsAll begin events next b → MatchOption (then_some b next) (IsStuck state events) (Runs state events)
+ran begin state next events b is h = by b (subst (λ (s : CoreState). ActsAll s events next b) is h)
+  where
+    by : (b : Bool) → ActsAll state events next b → MatchOption (then_some b next) (IsStuck state events) (Runs state events)
+    by true h = h
+    by false h = h

@@ -8,11 +8,10 @@ use Rattle.phase_core.specs.declared.state.Decl.{Decl}
 use Rattle.phase_core.specs.declared.state.CoreRecord.{CoreRecord}
 use Rattle.phase_core.specs.declared.state.CoreRecord.TheVariants.{Claimed, Held}
 use Rattle.phase_core.specs.declared.state.CoreState.{CoreState}
-use Rattle.phase_core.specs.Orders.{symbol_order}
 use Rattle.phase_core.specs.Images.{Known}
 use Rattle.phase_core.specs.InsideEdits.{Symbols}
-use Rattle.phase_core.specs.States.{NoneIsClaimed, is_claimed, unclaimed}
-use Rattle.phase_core.specs.Phases.{Swept, verdict_in}
+use Rattle.phase_core.specs.States.{NoneIsClaimed, is_claimed}
+use Rattle.phase_core.specs.Phases.{verdict_in}
 
 -- ---- claims
 
@@ -39,12 +38,6 @@ none_claimed state claims list are listed = (
         let here : Contains list x = subst (λ ys. Contains ys x) (sym e) (0, omega arith, refl) in
         let claim = claimed_by (finite.get state.records x) ((are x).0 ((listed x).0 here)) in
         absurd (none claim.0 x claim.1)
-
-pub swept_by : (state copy : CoreState) (records : finite.FinMap symbol_order CoreRecord) → copy ≡ state → ((s : SymbolId) → finite.get records s ≡ unclaimed (finite.get state.records s)) → Swept state (record copy { records = records })
-swept_by state copy records is left = record {
-  records = left;
-  rest = ap (λ (s : CoreState). record s { records = records }) is;
-}
 
 -- ---- verdicts
 

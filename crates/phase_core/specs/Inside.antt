@@ -50,6 +50,10 @@ pub record Imaged (world : World) (symbols : List SymbolId) (n : ℕ) (image : I
   pub only : (t : SymbolId) → IsSome (get image t) → Contains symbols t
   pub all : (t : SymbolId) → Contains (take n symbols) t → get image t ≡ Some (seen_at world t)
 
+-- the set has all of these
+abbrev pub AreIn : set.FinSet symbol_order → List SymbolId → Type 0
+AreIn those these = (s : SymbolId) → Contains these s → set.contains those s ≡ true
+
 -- none of the first so many has P
 pub record NoneSoFar {X : Type 0} (P : X → Type 0) (xs : List X) (n : ℕ) : Type 0 where
   pub none : (x : X) → Contains (take n xs) x → ¬ P x

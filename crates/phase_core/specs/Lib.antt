@@ -1,4 +1,5 @@
 pub mod Orders
+pub mod Says
 pub mod EdgeOrder
 pub mod World
 pub mod Closures
@@ -9,6 +10,7 @@ pub mod Edits
 pub mod Phases
 pub mod Workers
 pub mod Steps
+pub mod Acts
 pub mod Sound
 pub mod Inside
 pub mod Reached

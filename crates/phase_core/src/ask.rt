@@ -1,16 +1,18 @@
 // What the cases of events ask.
-ghost use Rattle.std.specs.Prelude.{◌≡◌, ◌↔◌, ℕ, IsTrue, IfOk, IfSome, IfNone, Contains, Some, All, slice_get, true};
+ghost use Rattle.std.specs.Prelude.{◌≡◌, ◌↔◌, ℕ, IsTrue, IfOk, IfSome, IfNone, Contains};
+ghost use Rattle.std.specs.Prelude.{Some, All, slice_get, true};
 ghost use Rattle.std.specs.FinMap as finite;
-ghost use Rattle.std.specs.FinSet as finite_set;
 ghost use Rattle.hack_types.specs.declared.ids.SymbolId.{SymbolId as Symbol};
 ghost use Rattle.phase_core.specs.declared.state.CoreWorker.TheVariants.{Idle, Work};
-ghost use Rattle.phase_core.specs.declared.state.CoreRecord.TheVariants.{Held};
+ghost use Rattle.phase_core.specs.declared.state.CoreRecord.TheVariants.{Claimed, Held};
+ghost use Rattle.phase_core.specs.Says.{Tells, HasAll};
 ghost use Rattle.phase_core.specs.World.{ParentsAreMentioned, MentionsParents};
-ghost use Rattle.phase_core.specs.States.{AtWork, Works, Holds, IsClaim, is_claimed};
+ghost use Rattle.phase_core.specs.States.{Works, Holds, is_claimed};
 ghost use Rattle.phase_core.specs.Phases.{IsCheckOf};
 
-use crate::{CoreImage, CoreRecord, CoreState, CoreWorker, Decl, SymbolMap, SymbolSet};
+use crate::{CoreImage, CoreRecord, CoreWorker, Decl, SymbolMap, SymbolSet};
 use hack_types::{NoMemory, SymbolId};
+use sqlite_items::Items;
 use std::alloc::Global;
 
 /// Whether two symbols are the same.
@@ -74,10 +76,10 @@ fn is_idle(worker: &CoreWorker) -> bool
 }
 
 /// Whether there is a worker of this number, with nothing to do.
-pub(crate) fn is_free(state: &CoreState, worker: u32) -> bool
-    ensures { IsTrue result ↔ (slice_get state.now.workers worker ≡ Some Idle) }
+pub(crate) fn is_free(workers: &Items<CoreWorker>, worker: u32) -> bool
+    ensures { IsTrue result ↔ (slice_get workers.now worker ≡ Some Idle) }
 {
-    match state.workers.get(worker as usize) {
+    match workers.get(worker as usize) {
         Some(worker) => is_idle(worker),
         None => false,
     }
@@ -85,14 +87,14 @@ pub(crate) fn is_free(state: &CoreState, worker: u32) -> bool
 
 /// What the worker of this number is at work on, whether with `check`, and what it knows.
 pub(crate) fn job_of(
-    state: &CoreState,
+    workers: &Items<CoreWorker>,
     worker: u32,
 ) -> Option<(SymbolId, bool, &SymbolMap<CoreImage>)>
-    ensures none { IfNone result (¬ AtWork state.now worker (λ _ _ _. Unit {0})) }
+    ensures none { IfNone result (¬ Works (slice_get workers.now worker) (λ _ _ _. Unit {0})) }
     ensures some { IfSome result
-        (λ job. slice_get state.now.workers worker ≡ Some (Work job.0 job.1 job.2.now)) }
+        (λ job. slice_get workers.now worker ≡ Some (Work job.0 job.1 job.2.now)) }
 {
-    match state.workers.get(worker as usize) {
+    match workers.get(worker as usize) {
         Some(
             CoreWorker::Work {
                 symbol,
@@ -132,11 +134,12 @@ fn checks(worker: &CoreWorker, symbol: &SymbolId) -> bool
 }
 
 /// The image that is held for a symbol.
-pub(crate) fn held_image(state: &CoreState, symbol: SymbolId) -> Option<&CoreImage>
-    ensures none { IfNone result (¬ Holds (finite.get state.now.records symbol) (λ _. Unit {0})) }
-    ensures some { IfSome result (λ image. finite.get state.now.records symbol ≡ Some (Held image.now)) }
+pub(crate) fn held_image(records: &SymbolMap<CoreRecord>, symbol: SymbolId) -> Option<&CoreImage>
+    ensures none { IfNone result (¬ Holds (finite.get records.now symbol) (λ _. Unit {0})) }
+    ensures some { IfSome result
+        (λ image. finite.get records.now symbol ≡ Some (Held image.now)) }
 {
-    match state.records.get(symbol) {
+    match records.get(symbol) {
         Some(CoreRecord::Held(image)) => Some(image),
         Some(CoreRecord::Claimed(_)) => None,
         None => None,
@@ -144,10 +147,10 @@ pub(crate) fn held_image(state: &CoreState, symbol: SymbolId) -> Option<&CoreIma
 }
 
 /// Whether a symbol's record is claimed by this worker.
-pub(crate) fn is_claim(state: &CoreState, worker: u32, symbol: SymbolId) -> bool
-    ensures { IsTrue result ↔ IsClaim state.now worker symbol }
+pub(crate) fn is_claim(records: &SymbolMap<CoreRecord>, worker: u32, symbol: SymbolId) -> bool
+    ensures { IsTrue result ↔ (finite.get records.now symbol ≡ Some (Claimed worker)) }
 {
-    match state.records.get(symbol) {
+    match records.get(symbol) {
         Some(CoreRecord::Claimed(owner)) => *owner == worker,
         Some(CoreRecord::Held(_)) => false,
         None => false,
@@ -156,8 +159,7 @@ pub(crate) fn is_claim(state: &CoreState, worker: u32, symbol: SymbolId) -> bool
 
 /// The symbols whose records are claimed.
 pub(crate) fn claimed(alloc: Global, records: &SymbolMap<CoreRecord>) -> Result<SymbolSet, NoMemory>
-    ensures { IfOk result (λ set. (s : Symbol) →
-        (finite_set.contains set s ≡ true) ↔ (is_claimed (finite.get records.now s) ≡ true)) }
+    ensures { IfOk result (HasAll (λ s. is_claimed (finite.get records.now s) ≡ true)) }
 {
     let mut set = SymbolSet::new(alloc);
     let symbols = records.symbols(alloc)?;
@@ -185,7 +187,7 @@ pub(crate) fn parents_are_mentioned(
     alloc: Global,
     world: &SymbolMap<Decl>,
 ) -> Result<bool, NoMemory>
-    ensures { IfOk result (λ answer. IsTrue answer ↔ ParentsAreMentioned world.now) }
+    ensures { IfOk result (Tells (ParentsAreMentioned world.now)) }
 {
     let symbols = world.symbols(alloc)?;
     for symbol in &symbols {

@@ -1,7 +1,7 @@
 // What is reached over paths.
-ghost use Rattle.std.specs.Prelude.{◌≡◌, ◌↔◌, IsTrue, IfOk, OnOk, Contains, ◌∷◌, [], true};
-ghost use Rattle.std.specs.FinSet as set;
+ghost use Rattle.std.specs.Prelude.{IfOk, OnOk, ◌∷◌, []};
 ghost use Rattle.hack_types.specs.declared.ids.SymbolId.{SymbolId as Symbol};
+ghost use Rattle.phase_core.specs.Says.{ListsAll};
 ghost use Rattle.phase_core.specs.World.{IsParent};
 ghost use Rattle.phase_core.specs.Edges.{HasFold};
 ghost use Rattle.phase_core.specs.Reached.{Added, IsReach};
@@ -16,7 +16,7 @@ pub(crate) trait Links {
 
     /// Where it leads from this symbol.
     fn next(&self, alloc: Global, symbol: SymbolId) -> Result<Vec<SymbolId>, NoMemory>
-        ensures { IfOk result (λ list. (t : Symbol) → Contains list.items t ↔ leads self.now symbol t) };
+        ensures { IfOk result (λ list. ListsAll (leads self.now symbol) list.items) };
 }
 
 // from a declared symbol to its parents
@@ -62,7 +62,8 @@ impl Reached {
     }
 }
 
-/// All that is reached from these symbols. Each symbol is looked at once, in the order in which it was met.
+/// All that is reached from these symbols. Each symbol is looked at once, in the order in which it
+/// was met.
 pub(crate) fn reach<L: Links>(
     alloc: Global,
     links: &L,

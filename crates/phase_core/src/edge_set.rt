@@ -1,11 +1,11 @@
 // Sets of edges.
-ghost use Rattle.std.specs.Prelude.{◌≡◌, ◌↔◌, IsTrue, IfOk, OnOk, OnErr, Contains, true};
+ghost use Rattle.std.specs.Prelude.{◌≡◌, IsTrue, IfOk, OnOk, OnErr};
 ghost use Rattle.std.specs.FinSet as set;
-ghost use Rattle.hack_types.specs.declared.ids.SymbolId.{SymbolId as Symbol};
 ghost use Rattle.std.specs.BTreeSet as sorted;
 ghost use Rattle.phase_core.specs.EdgeOrder.{edge_order};
 ghost use Rattle.phase_core.specs.Inside.{folds_behind};
-ghost use Rattle.phase_core.specs.declared.edge.CoreEdge.{CoreEdge as Edge};
+ghost use Rattle.phase_core.specs.Says.{ListsAll};
+ghost use Rattle.phase_core.specs.Edges.{HasFold};
 
 use crate::{Copied, CoreEdge};
 use hack_types::{Kind, NameId, NoMemory, SymbolId};
@@ -59,15 +59,14 @@ impl EdgeSet {
 
     /// Its edges in their order, each once.
     pub fn edges(&self, alloc: Global) -> Result<Vec<CoreEdge>, NoMemory>
-        ensures { IfOk result (λ list. (e : Edge) → Contains list.items e ↔ IsTrue (set.contains self.now e)) }
+        ensures { IfOk result (λ l. ListsAll (λ e. IsTrue (set.contains self.now e)) l.items) }
     {
         Ok(keys_of(&self.edges, alloc)?)
     }
 
     /// Where the fold edges from this symbol lead.
     pub fn folds_from(&self, alloc: Global, from: SymbolId) -> Result<Vec<SymbolId>, NoMemory>
-        ensures { IfOk result (λ list. (t : Symbol) →
-            Contains list.items t ↔ IsTrue (set.contains self.now (record { fold = true; from = from; to = t }))) }
+        ensures { IfOk result (λ list. ListsAll (HasFold self.now from) list.items) }
     {
         Ok(folds_among(&self.edges, from, alloc)?)
     }
@@ -80,7 +79,8 @@ fn keys_of(set: &BTreeSet<CoreEdge>, alloc: Global) -> Result<Vec<CoreEdge>, All
     set.iter().copied().collect(alloc)
 }
 
-// Where the fold edges from this symbol lead: they stand together, behind the first edge that could be one.
+// Where the fold edges from this symbol lead: they stand together, behind the first edge that could
+// be one.
 fn folds_among(
     set: &BTreeSet<CoreEdge>,
     from: SymbolId,
@@ -105,12 +105,9 @@ fn folds_among(
 }
 
 impl Copied for EdgeSet {
-    fn copied(&self, alloc: Global) -> Result<Self, NoMemory> {
-        let mut copy = EdgeSet::new(alloc);
-        let edges = self.edges(alloc)?;
-        for edge in &edges {
-            copy.insert(*edge)?;
-        }
-        Ok(copy)
+    fn copied(&self, _alloc: Global) -> Result<Self, NoMemory> {
+        Ok(EdgeSet {
+            edges: self.edges.clone()?,
+        })
     }
 }

@@ -1,50 +1,105 @@
 // The event that the master takes another world.
-ghost use Rattle.std.specs.Prelude.{◌≡◌, ◌≢◌, ◌↔◌, ◌⊎◌, IsTrue, IsSome, IfOk, Some, true, false};
+ghost use Rattle.std.specs.Prelude.{◌≡◌, ◌≢◌, ◌↔◌, IsTrue, IsSome, IfOk, OnOk, Contains};
+ghost use Rattle.std.specs.Prelude.{Some, true, false};
 ghost use Rattle.std.specs.FinMap as finite;
 ghost use Rattle.std.specs.FinSet as finite_set;
 ghost use Rattle.hack_types.specs.declared.ids.SymbolId.{SymbolId as Symbol};
-ghost use Rattle.phase_core.specs.declared.edge.CoreEdge.{CoreEdge as Edge};
 ghost use Rattle.phase_core.specs.World.{IsDeclared, seen, seen_at, told, told_at};
 ghost use Rattle.phase_core.specs.Edits.{MayEdit, Edited, IsEvicted};
-ghost use Rattle.phase_core.specs.InsideEdits.{LooksInto, StaysEdge, Refreshed};
+ghost use Rattle.phase_core.specs.InsideEdits.{LooksInto, Refreshed, IsRenewed, IsOutdated};
+ghost use Rattle.phase_core.specs.InsideEdits.{IsInOne, StaysEdge, RecordsLeft, VerdictsLeft, Left};
+ghost use Rattle.phase_core.specs.Says.{Tells, HasAll};
+ghost use Rattle.phase_core.specs.Closures.{Reaches};
 ghost use Rattle.phase_core.specs.Edges.{HasFold};
-ghost use Rattle.phase_core.specs.Steps.{Answers};
+ghost use Rattle.phase_core.specs.Acts.{Acts};
 
 use crate::ask::{all_are_idle, has_same, parents_are_mentioned};
 use crate::closure::reach;
 use crate::phases::without_claims;
-use crate::{Copied, CoreEdge, CoreState, CoreVerdict, Decl, EdgeSet, SymbolMap, SymbolSet};
+use crate::{
+    Copied, CoreEdge, CoreRecord, CoreState, CoreVerdict, Decl, EdgeSet, SymbolMap, SymbolSet,
+};
 use hack_types::{NoMemory, SymbolId};
 use std::alloc::Global;
 
 /// The master takes another world.
 pub(crate) fn edit(
     alloc: Global,
-    state: &CoreState,
+    state: &mut CoreState,
     world: &SymbolMap<Decl>,
-) -> Result<Option<CoreState>, NoMemory>
-    ensures { IfOk result (Answers (MayEdit state.now world.now) (Edited state.now world.now)) }
+) -> Result<bool, NoMemory>
+    ensures { IfOk result
+        (Acts (MayEdit state.old world.now) (Edited state.old world.now) state.new) }
 {
     if !may_edit(alloc, state, world)? {
-        return Ok(None);
+        return Ok(false);
     }
     let evicted = evicted(alloc, state, world)?;
-    let refreshed = refreshed(alloc, state, world, &evicted)?;
-    let outdated = outdated(alloc, &state.verdicts, world, &refreshed)?;
-    Ok(Some(CoreState {
-        world: world.copied(alloc)?,
-        records: without_claims(alloc, &state.records)?.without(alloc, &evicted)?,
-        edges: edges_left(alloc, &state.edges, world, &evicted, &refreshed)?,
-        stale: stale_left(alloc, &state.stale, world, &refreshed)?,
-        verdicts: state.verdicts.without(alloc, &outdated)?,
-        workers: state.workers.copied(alloc)?,
-        raised: state.raised,
-    }))
+    edit_over(alloc, state, world, &evicted)?;
+    Ok(true)
+}
+
+// Takes the world where these symbols are evicted.
+fn edit_over(
+    alloc: Global,
+    state: &mut CoreState,
+    world: &SymbolMap<Decl>,
+    evicted: &SymbolSet,
+) -> Result<(), NoMemory>
+    ensures { OnOk result
+        (HasAll (IsEvicted state.old world.now) evicted.now →
+        Edited state.old world.now state.new) }
+{
+    let refreshed = refreshed(alloc, state, world, evicted)?;
+    leave(alloc, state, world, evicted, &refreshed)
+}
+
+// Takes the world where these symbols are evicted and these units become stale.
+fn leave(
+    alloc: Global,
+    state: &mut CoreState,
+    world: &SymbolMap<Decl>,
+    evicted: &SymbolSet,
+    refreshed: &SymbolSet,
+) -> Result<(), NoMemory>
+    ensures { OnOk result (Left state.old world.now evicted.now refreshed.now state.new) }
+{
+    state.records = records_left(alloc, &state.records, evicted)?;
+    state.edges = edges_left(alloc, &state.edges, world, evicted, refreshed)?;
+    state.stale = stale_left(alloc, &state.stale, world, refreshed)?;
+    state.verdicts = verdicts_left(alloc, &state.verdicts, world, refreshed)?;
+    state.world = world.copied(alloc)?;
+    Ok(())
+}
+
+// The records that stay.
+fn records_left(
+    alloc: Global,
+    records: &SymbolMap<CoreRecord>,
+    evicted: &SymbolSet,
+) -> Result<SymbolMap<CoreRecord>, NoMemory>
+    ensures { IfOk result (RecordsLeft records.now evicted.now) }
+{
+    let records = without_claims(alloc, records)?;
+    records.without(alloc, evicted)
+}
+
+// The verdicts that stay.
+fn verdicts_left(
+    alloc: Global,
+    verdicts: &SymbolMap<CoreVerdict>,
+    world: &SymbolMap<Decl>,
+    refreshed: &SymbolSet,
+) -> Result<SymbolMap<CoreVerdict>, NoMemory>
+    ensures { IfOk result (VerdictsLeft verdicts.now world.now refreshed.now) }
+{
+    let outdated = outdated(alloc, verdicts, world, refreshed)?;
+    verdicts.without(alloc, &outdated)
 }
 
 // Whether the master may take this world.
 fn may_edit(alloc: Global, state: &CoreState, world: &SymbolMap<Decl>) -> Result<bool, NoMemory>
-    ensures { IfOk result (λ answer. IsTrue answer ↔ MayEdit state.now world.now) }
+    ensures { IfOk result (Tells (MayEdit state.now world.now)) }
 {
     if all_are_idle(state.workers.as_slice()) {
         parents_are_mentioned(alloc, world)
@@ -55,12 +110,19 @@ fn may_edit(alloc: Global, state: &CoreState, world: &SymbolMap<Decl>) -> Result
 
 // The symbols from which a changed one is reached over fold edges.
 fn evicted(alloc: Global, state: &CoreState, world: &SymbolMap<Decl>) -> Result<SymbolSet, NoMemory>
-    ensures { IfOk result (λ set. (s : Symbol) →
-        (finite_set.contains set s ≡ true) ↔ IsEvicted state.now world.now s) }
+    ensures { IfOk result (HasAll (IsEvicted state.now world.now)) }
 {
     let changed = changed(alloc, &state.world, world)?.symbols(alloc)?;
-    let turned = turned(alloc, &state.edges)?;
-    Ok(reach(alloc, &turned, &changed)?.set)
+    reaching(alloc, &state.edges, &changed)
+}
+
+// The symbols from which one of these is reached over fold edges, maybe in no step.
+fn reaching(alloc: Global, edges: &EdgeSet, ends: &[SymbolId]) -> Result<SymbolSet, NoMemory>
+    ensures { IfOk result
+        (HasAll (λ s. (t : Symbol) × Contains ends.now t × Reaches (HasFold edges.now) s t)) }
+{
+    let turned = turned(alloc, edges)?;
+    Ok(reach(alloc, &turned, ends)?.set)
 }
 
 // The changed symbols.
@@ -69,8 +131,7 @@ fn changed(
     old: &SymbolMap<Decl>,
     new: &SymbolMap<Decl>,
 ) -> Result<SymbolSet, NoMemory>
-    ensures { IfOk result (λ set. (s : Symbol) →
-        (finite_set.contains set s ≡ true) ↔ (seen_at old.now s ≢ seen_at new.now s)) }
+    ensures { IfOk result (HasAll (λ s. seen_at old.now s ≢ seen_at new.now s)) }
 {
     let mut set = SymbolSet::new(alloc);
     let mut symbols = old.symbols(alloc)?;
@@ -137,8 +198,7 @@ fn refreshed(
     world: &SymbolMap<Decl>,
     evicted: &SymbolSet,
 ) -> Result<SymbolSet, NoMemory>
-    ensures { IfOk result (λ set. (u : Symbol) →
-        (finite_set.contains set u ≡ true) ↔ Refreshed state.now world.now evicted.now u) }
+    ensures { IfOk result (HasAll (Refreshed state.now world.now evicted.now)) }
 {
     let lookers = lookers(alloc, &state.edges, evicted)?;
     renewed(alloc, &state.world, world, &lookers)
@@ -151,11 +211,8 @@ fn renewed(
     new: &SymbolMap<Decl>,
     lookers: &SymbolSet,
 ) -> Result<SymbolSet, NoMemory>
-    ensures { IfOk result (λ set. (u : Symbol) →
-        (finite_set.contains set u ≡ true) ↔
-        (IsDeclared new.now u ×
-        ((finite_set.contains lookers.now u ≡ true)
-        ⊎ (told_at old.now u ≢ told_at new.now u)))) }
+    ensures { IfOk result
+        (HasAll (λ u. IsDeclared new.now u × IsRenewed old.now new.now lookers.now u)) }
 {
     let mut set = SymbolSet::new(alloc);
     let symbols = new.symbols(alloc)?;
@@ -174,17 +231,14 @@ fn is_refreshed(
     lookers: &SymbolSet,
     symbol: &SymbolId,
 ) -> bool
-    ensures { IsTrue result ↔
-        ((finite_set.contains lookers.now symbol.now ≡ true)
-        ⊎ (told_at old.now symbol.now ≢ told_at new.now symbol.now)) }
+    ensures { IsTrue result ↔ IsRenewed old.now new.now lookers.now symbol.now }
 {
     lookers.contains(*symbol) || !is_told_alike(old, new, symbol)
 }
 
 // The symbols with a check edge to an evicted one.
 fn lookers(alloc: Global, edges: &EdgeSet, evicted: &SymbolSet) -> Result<SymbolSet, NoMemory>
-    ensures { IfOk result (λ set. (u : Symbol) →
-        (finite_set.contains set u ≡ true) ↔ LooksInto edges.now evicted.now u) }
+    ensures { IfOk result (HasAll (LooksInto edges.now evicted.now)) }
 {
     let mut set = SymbolSet::new(alloc);
     let list = edges.edges(alloc)?;
@@ -238,10 +292,8 @@ fn outdated(
     world: &SymbolMap<Decl>,
     refreshed: &SymbolSet,
 ) -> Result<SymbolSet, NoMemory>
-    ensures { IfOk result (λ set. (u : Symbol) →
-        (finite_set.contains set u ≡ true) ↔
-        (IsSome (finite.get verdicts.now u) ×
-        ((¬ IsDeclared world.now u) ⊎ (finite_set.contains refreshed.now u ≡ true)))) }
+    ensures { IfOk result (HasAll
+        (λ u. IsSome (finite.get verdicts.now u) × IsOutdated world.now refreshed.now u)) }
 {
     let mut set = SymbolSet::new(alloc);
     let symbols = verdicts.symbols(alloc)?;
@@ -255,9 +307,7 @@ fn outdated(
 
 // Whether the unit isn't declared, or becomes stale.
 fn is_outdated(world: &SymbolMap<Decl>, refreshed: &SymbolSet, symbol: &SymbolId) -> bool
-    ensures { IsTrue result ↔
-        ((¬ IsDeclared world.now symbol.now)
-        ⊎ (finite_set.contains refreshed.now symbol.now ≡ true)) }
+    ensures { IsTrue result ↔ IsOutdated world.now refreshed.now symbol.now }
 {
     !world.has(*symbol) || refreshed.contains(*symbol)
 }
@@ -269,11 +319,8 @@ fn stale_left(
     world: &SymbolMap<Decl>,
     refreshed: &SymbolSet,
 ) -> Result<SymbolSet, NoMemory>
-    ensures { IfOk result (λ set. (u : Symbol) →
-        (finite_set.contains set u ≡ true) ↔
-        (IsDeclared world.now u ×
-        ((finite_set.contains stale.now u ≡ true)
-        ⊎ (finite_set.contains refreshed.now u ≡ true)))) }
+    ensures { IfOk result
+        (HasAll (λ u. IsDeclared world.now u × IsInOne stale.now refreshed.now u)) }
 {
     let mut set = SymbolSet::new(alloc);
     let symbols = world.symbols(alloc)?;
@@ -287,9 +334,7 @@ fn stale_left(
 
 // Whether the symbol is in one of the sets.
 fn is_in_one(a: &SymbolSet, b: &SymbolSet, symbol: &SymbolId) -> bool
-    ensures { IsTrue result ↔
-        ((finite_set.contains a.now symbol.now ≡ true)
-        ⊎ (finite_set.contains b.now symbol.now ≡ true)) }
+    ensures { IsTrue result ↔ IsInOne a.now b.now symbol.now }
 {
     a.contains(*symbol) || b.contains(*symbol)
 }
@@ -302,9 +347,7 @@ fn edges_left(
     evicted: &SymbolSet,
     refreshed: &SymbolSet,
 ) -> Result<EdgeSet, NoMemory>
-    ensures { IfOk result (λ left. (e : Edge) →
-        (finite_set.contains left e ≡ true) ↔
-        ((finite_set.contains edges.now e ≡ true) ×
+    ensures { IfOk result (HasAll (λ e. (finite_set.contains edges.now e ≡ true) ×
         StaysEdge world.now evicted.now refreshed.now e)) }
 {
     let mut left = EdgeSet::new(alloc);

@@ -2,8 +2,8 @@
 use crate::{CoreEdge, Decl, SymbolMap};
 use hack_types::SymbolId;
 
-/// What may happen: an action of the master while no worker holds a seat, or one step of a worker, or of the seat that
-/// raises, with the worker's own work after it.
+/// What may happen: an action of the master while no worker holds a seat, or one step of a worker,
+/// or of the seat that raises, with the worker's own work after it.
 #[derive(Drop)]
 pub enum Event {
     /// The master takes another world.

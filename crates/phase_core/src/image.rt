@@ -1,10 +1,11 @@
 // Images, and whether edges cover them.
-ghost use Rattle.std.specs.Prelude.{◌≡◌, ◌↔◌, IsTrue, IfOk, Contains, true};
-ghost use Rattle.std.specs.FinSet as finite_set;
-ghost use Rattle.hack_types.specs.declared.ids.SymbolId.{SymbolId as Symbol};
+ghost use Rattle.std.specs.Prelude.{◌≡◌, IfOk, OnOk, length};
+ghost use Rattle.std.specs.FinMap as finite;
+ghost use Rattle.phase_core.specs.Says.{Tells};
 ghost use Rattle.phase_core.specs.World.{seen_at};
 ghost use Rattle.phase_core.specs.Images.{IsImage};
 ghost use Rattle.phase_core.specs.Edges.{IsCovered};
+ghost use Rattle.phase_core.specs.Inside.{AreIn, Imaged};
 
 use crate::closure::reach_from;
 use crate::{Copied, CoreImage, CoreSeen, Decl, EdgeSet, SymbolMap, SymbolSet};
@@ -20,11 +21,36 @@ pub(crate) fn image_of(
     ensures { IfOk result (IsImage world.now symbol) }
 {
     let closure = reach_from(alloc, world, symbol)?;
+    sights(alloc, world, &closure.symbols)
+}
+
+// What is seen of each of these symbols.
+fn sights(
+    alloc: Global,
+    world: &SymbolMap<Decl>,
+    symbols: &[SymbolId],
+) -> Result<CoreImage, NoMemory>
+    ensures { IfOk result (Imaged world.now symbols.now (length symbols.now)) }
+{
     let mut image = SymbolMap::new(alloc);
-    for member in &closure.symbols {
-        image.insert(*member, seen_of(alloc, world, *member)?)?;
+    for symbol in symbols {
+        add_sight(alloc, world, symbol, &mut image)?;
     }
     Ok(image)
+}
+
+// Adds what is seen of a symbol.
+fn add_sight(
+    alloc: Global,
+    world: &SymbolMap<Decl>,
+    symbol: &SymbolId,
+    image: &mut CoreImage,
+) -> Result<(), NoMemory>
+    ensures { OnOk result (image.new ≡
+        finite.insert image.old symbol.now (seen_at world.now symbol.now)) }
+{
+    let sight = seen_of(alloc, world, *symbol)?;
+    image.insert(*symbol, sight)
 }
 
 // What is seen of a symbol.
@@ -52,7 +78,7 @@ pub(crate) fn is_covered(
     edges: &EdgeSet,
     symbol: &SymbolId,
 ) -> Result<bool, NoMemory>
-    ensures { IfOk result (λ answer. IsTrue answer ↔ IsCovered world.now edges.now symbol.now) }
+    ensures { IfOk result (Tells (IsCovered world.now edges.now symbol.now)) }
 {
     let closure = reach_from(alloc, world, *symbol)?;
     let folds = reach_from(alloc, edges, *symbol)?;
@@ -61,7 +87,7 @@ pub(crate) fn is_covered(
 
 // Whether all of the symbols are in the set.
 fn has_all(set: &SymbolSet, symbols: &[SymbolId]) -> bool
-    ensures { IsTrue result ↔ ((s : Symbol) → Contains symbols.now s → finite_set.contains set.now s ≡ true) }
+    ensures { Tells (AreIn set.now symbols.now) result }
 {
     for symbol in symbols {
         if !set.contains(*symbol) {

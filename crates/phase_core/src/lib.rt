@@ -1,4 +1,5 @@
-//! The phases of workers as a pure machine of events, in which numbers stand for texts and signatures.
+//! The phases of workers as a pure machine of events, in which numbers stand for texts and
+//! signatures.
 #![tactic(auto)]
 
 mod ask;

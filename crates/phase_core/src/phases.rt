@@ -5,8 +5,12 @@ ghost use Rattle.std.specs.FinMap as finite;
 ghost use Rattle.hack_types.specs.declared.ids.SymbolId.{SymbolId as Symbol};
 ghost use Rattle.phase_core.specs.declared.state.CoreWorker.TheVariants.{Idle};
 ghost use Rattle.phase_core.specs.States.{AllAreIdle, NoneIsClaimed, unclaimed, with_worker};
-ghost use Rattle.phase_core.specs.Phases.{MaySweep, Swept, MayStart, Started, IsJob, MayTake, Taken, verdict_in, with_verdict, finished, MayFinish, Finished, Raised, MayHear, Heard};
-ghost use Rattle.phase_core.specs.Steps.{Answers};
+ghost use Rattle.phase_core.specs.Says.{Tells};
+ghost use Rattle.phase_core.specs.Phases.{MaySweep, Swept, MayStart, Started};
+ghost use Rattle.phase_core.specs.Phases.{IsJob, MayTake, Taken};
+ghost use Rattle.phase_core.specs.Phases.{verdict_in, with_verdict, finished};
+ghost use Rattle.phase_core.specs.Phases.{MayFinish, Finished, MayHear, Heard};
+ghost use Rattle.phase_core.specs.Acts.{Acts};
 
 use crate::ask::{all_are_idle, claimed, is_checked, is_free, job_of};
 use crate::{Copied, CoreImage, CoreRecord, CoreState, CoreVerdict, CoreWorker, Decl, SymbolMap};
@@ -15,15 +19,14 @@ use sqlite_items::Items;
 use std::alloc::Global;
 
 /// The master takes out the claimed records.
-pub(crate) fn sweep(alloc: Global, state: &CoreState) -> Result<Option<CoreState>, NoMemory>
-    ensures { IfOk result (Answers (MaySweep state.now) (Swept state.now)) }
+pub(crate) fn sweep(alloc: Global, state: &mut CoreState) -> Result<bool, NoMemory>
+    ensures { IfOk result (Acts (MaySweep state.old) (Swept state.old) state.new) }
 {
     if !all_are_idle(state.workers.as_slice()) {
-        return Ok(None);
+        return Ok(false);
     }
-    let mut next = state.copied(alloc)?;
-    next.records = without_claims(alloc, &state.records)?;
-    Ok(Some(next))
+    state.records = without_claims(alloc, &state.records)?;
+    Ok(true)
 }
 
 /// The records without the claimed ones.
@@ -39,25 +42,20 @@ pub(crate) fn without_claims(
 }
 
 /// The master begins a phase.
-pub(crate) fn start(
-    alloc: Global,
-    state: &CoreState,
-    workers: u32,
-) -> Result<Option<CoreState>, NoMemory>
-    ensures { IfOk result (Answers (MayStart state.now) (Started state.now workers)) }
+pub(crate) fn start(alloc: Global, state: &mut CoreState, workers: u32) -> Result<bool, NoMemory>
+    ensures { IfOk result (Acts (MayStart state.old) (Started state.old workers) state.new) }
 {
     if !may_start(alloc, state)? {
-        return Ok(None);
+        return Ok(false);
     }
-    let mut next = state.copied(alloc)?;
-    next.workers = idle_workers(alloc, workers)?;
-    next.raised = false;
-    Ok(Some(next))
+    state.workers = idle_workers(alloc, workers)?;
+    state.raised = false;
+    Ok(true)
 }
 
 // Whether the master may begin a phase.
 fn may_start(alloc: Global, state: &CoreState) -> Result<bool, NoMemory>
-    ensures { IfOk result (λ answer. IsTrue answer ↔ MayStart state.now) }
+    ensures { IfOk result (Tells (MayStart state.now)) }
 {
     if all_are_idle(state.workers.as_slice()) {
         none_is_claimed(alloc, state)
@@ -68,7 +66,7 @@ fn may_start(alloc: Global, state: &CoreState) -> Result<bool, NoMemory>
 
 // Whether no record is claimed.
 fn none_is_claimed(alloc: Global, state: &CoreState) -> Result<bool, NoMemory>
-    ensures { IfOk result (λ answer. IsTrue answer ↔ NoneIsClaimed state.now) }
+    ensures { IfOk result (Tells (NoneIsClaimed state.now)) }
 {
     let claims = claimed(alloc, &state.records)?.symbols(alloc)?;
     Ok(Items::from_vec(claims).is_empty())
@@ -88,22 +86,20 @@ fn idle_workers(alloc: Global, count: u32) -> Result<Items<CoreWorker>, NoMemory
 /// A worker takes a job.
 pub(crate) fn take(
     alloc: Global,
-    state: &CoreState,
+    state: &mut CoreState,
     worker: u32,
     symbol: &SymbolId,
     check: bool,
-) -> Result<Option<CoreState>, NoMemory>
-    ensures { IfOk result
-        (Answers (MayTake state.now worker symbol.now check)
-        (Taken state.now worker symbol.now check)) }
+) -> bool
+    ensures { Acts (MayTake state.old worker symbol.now check)
+        (Taken state.old worker symbol.now check) state.new result }
 {
     if !may_take(state, worker, symbol, check) {
-        return Ok(None);
+        return false;
     }
-    let mut next = state.copied(alloc)?;
     let known = SymbolMap::new(alloc);
     set_worker(
-        &mut next,
+        state,
         worker,
         CoreWorker::Work {
             symbol: *symbol,
@@ -111,14 +107,14 @@ pub(crate) fn take(
             known,
         },
     );
-    Ok(Some(next))
+    true
 }
 
 // Whether the worker may take this job.
 fn may_take(state: &CoreState, worker: u32, symbol: &SymbolId, check: bool) -> bool
     ensures { IsTrue result ↔ MayTake state.now worker symbol.now check }
 {
-    is_free(state, worker) && is_job(state, symbol, check)
+    is_free(&state.workers, worker) && is_job(state, symbol, check)
 }
 
 // Whether the job may be had.
@@ -142,21 +138,18 @@ pub(crate) fn set_worker(state: &mut CoreState, worker: u32, becomes: CoreWorker
 }
 
 /// A worker ends its job.
-pub(crate) fn finish(
-    alloc: Global,
-    state: &CoreState,
-    worker: u32,
-) -> Result<Option<CoreState>, NoMemory>
-    ensures { IfOk result (Answers (MayFinish state.now worker) (Finished state.now worker)) }
+pub(crate) fn finish(alloc: Global, state: &mut CoreState, worker: u32) -> Result<bool, NoMemory>
+    ensures { IfOk result
+        (Acts (MayFinish state.old worker) (Finished state.old worker) state.new) }
 {
-    match job_of(state, worker) {
+    match job_of(&state.workers, worker) {
         Some((symbol, check, known)) => {
-            let mut next = state.copied(alloc)?;
-            judge(alloc, &mut next, &symbol, check, known)?;
-            set_worker(&mut next, worker, CoreWorker::Idle);
-            Ok(Some(next))
+            let known = known.copied(alloc)?;
+            judge(alloc, state, &symbol, check, &known)?;
+            set_worker(state, worker, CoreWorker::Idle);
+            Ok(true)
         }
-        None => Ok(None),
+        None => Ok(false),
     }
 }
 
@@ -201,7 +194,7 @@ fn verdict_of(
     symbol: SymbolId,
     known: &SymbolMap<CoreImage>,
 ) -> Result<Option<CoreVerdict>, NoMemory>
-    ensures { IfOk result (λ verdict. verdict ≡ verdict_in (finite.get world.now symbol) known.now) }
+    ensures { IfOk result (λ v. v ≡ verdict_in (finite.get world.now symbol) known.now) }
 {
     match world.get(symbol) {
         Some(decl) => Ok(Some(CoreVerdict {
@@ -213,36 +206,22 @@ fn verdict_of(
     }
 }
 
-/// Somebody asks the workers to stop.
-pub(crate) fn raise(alloc: Global, state: &CoreState) -> Result<Option<CoreState>, NoMemory>
-    ensures { IfOk result (Answers (Unit {0}) (Raised state.now)) }
-{
-    let mut next = state.copied(alloc)?;
-    next.raised = true;
-    Ok(Some(next))
-}
-
 /// A worker hears that it is to stop.
-pub(crate) fn hear(
-    alloc: Global,
-    state: &CoreState,
-    worker: u32,
-) -> Result<Option<CoreState>, NoMemory>
-    ensures { IfOk result (Answers (MayHear state.now worker) (Heard state.now worker)) }
+pub(crate) fn hear(state: &mut CoreState, worker: u32) -> bool
+    ensures { Acts (MayHear state.old worker) (Heard state.old worker) state.new result }
 {
     if !may_hear(state, worker) {
-        return Ok(None);
+        return false;
     }
-    let mut next = state.copied(alloc)?;
-    set_worker(&mut next, worker, CoreWorker::Idle);
-    Ok(Some(next))
+    set_worker(state, worker, CoreWorker::Idle);
+    true
 }
 
 // Whether the worker is at work and is to stop.
 fn may_hear(state: &CoreState, worker: u32) -> bool
     ensures { IsTrue result ↔ MayHear state.now worker }
 {
-    match job_of(state, worker) {
+    match job_of(&state.workers, worker) {
         Some(_) => state.raised,
         None => false,
     }

@@ -29,8 +29,8 @@ pub struct CoreSeen {
     pub mentions: Items<SymbolId>,
 }
 
-/// What stands for a folded declaration: each symbol of the closure over parents with what is seen of its declaration, or
-/// with none where it isn't declared.
+/// What stands for a folded declaration: each symbol of the closure over parents with what is seen
+/// of its declaration, or with none where it isn't declared.
 pub type CoreImage = SymbolMap<Option<CoreSeen>>;
 
 /// What stands for a record of the shared heap.
@@ -69,8 +69,8 @@ pub enum CoreWorker {
     },
 }
 
-/// The state: what is declared, the records and edges, the units to check and the verdicts, and the workers by their
-/// numbers, from 0.
+/// The state: what is declared, the records and edges, the units to check and the verdicts, and the
+/// workers by their numbers, from 0.
 #[derive(Drop)]
 pub struct CoreState {
     /// What is declared.

@@ -1,10 +1,11 @@
 // Maps from symbols.
-ghost use Rattle.std.specs.Prelude.{◌≡◌, ◌↔◌, IsSome, IfOk, OnOk, OnErr, Contains, None, if◌then◌else◌, is_some};
+ghost use Rattle.std.specs.Prelude.{◌≡◌, IsSome, IfOk, OnOk, OnErr, None, if◌then◌else◌, is_some};
 ghost use Rattle.std.specs.Option.{option_copied};
 ghost use Rattle.std.specs.BTreeMap as tree;
 ghost use Rattle.std.specs.FinMap as finite;
 ghost use Rattle.std.specs.FinSet as set;
 ghost use Rattle.hack_types.specs.declared.ids.SymbolId.{SymbolId as Symbol};
+ghost use Rattle.phase_core.specs.Says.{ListsAll};
 ghost use Rattle.phase_core.specs.Inside.{put_from};
 
 use crate::{Copied, SymbolSet};
@@ -57,7 +58,7 @@ impl<V> SymbolMap<V> {
 
     /// Its symbols in their order, each once.
     pub fn symbols(&self, alloc: Global) -> Result<Vec<SymbolId>, NoMemory>
-        ensures { IfOk result (λ list. (s : Symbol) → Contains list.items s ↔ IsSome (finite.get self.now s)) }
+        ensures { IfOk result (λ list. ListsAll (λ s. IsSome (finite.get self.now s)) list.items) }
     {
         Ok(keys_of(&self.by_symbol, alloc)?)
     }

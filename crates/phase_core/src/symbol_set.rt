@@ -1,7 +1,7 @@
 // Sets of symbols.
-ghost use Rattle.std.specs.Prelude.{◌≡◌, ◌↔◌, IsTrue, IfOk, OnOk, OnErr, Contains};
+ghost use Rattle.std.specs.Prelude.{◌≡◌, IsTrue, IfOk, OnOk, OnErr};
 ghost use Rattle.std.specs.FinSet as set;
-ghost use Rattle.hack_types.specs.declared.ids.SymbolId.{SymbolId as Symbol};
+ghost use Rattle.phase_core.specs.Says.{ListsAll};
 
 use crate::Copied;
 use hack_types::{NoMemory, SymbolId};
@@ -62,7 +62,7 @@ impl SymbolSet {
 
     /// Its symbols in their order, each once.
     pub fn symbols(&self, alloc: Global) -> Result<Vec<SymbolId>, NoMemory>
-        ensures { IfOk result (λ list. (s : Symbol) → Contains list.items s ↔ IsTrue (set.contains self.now s)) }
+        ensures { IfOk result (λ l. ListsAll (λ s. IsTrue (set.contains self.now s)) l.items) }
     {
         Ok(keys_of(&self.symbols, alloc)?)
     }
@@ -76,12 +76,9 @@ fn keys_of(set: &BTreeSet<SymbolId>, alloc: Global) -> Result<Vec<SymbolId>, All
 }
 
 impl Copied for SymbolSet {
-    fn copied(&self, alloc: Global) -> Result<Self, NoMemory> {
-        let mut copy = SymbolSet::new(alloc);
-        let symbols = self.symbols(alloc)?;
-        for symbol in &symbols {
-            copy.insert(*symbol)?;
-        }
-        Ok(copy)
+    fn copied(&self, _alloc: Global) -> Result<Self, NoMemory> {
+        Ok(SymbolSet {
+            symbols: self.symbols.clone()?,
+        })
     }
 }

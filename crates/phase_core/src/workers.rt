@@ -1,10 +1,14 @@
 // The events of a worker at its job.
-ghost use Rattle.std.specs.Prelude.{◌≡◌, ◌↔◌, IsTrue, IfOk, MatchOption, Contains, Some};
+ghost use Rattle.std.specs.Prelude.{◌≡◌, ◌↔◌, IsTrue, IfOk, Contains, Some};
 ghost use Rattle.std.specs.FinMap as finite;
 ghost use Rattle.phase_core.specs.World.{Names};
 ghost use Rattle.phase_core.specs.States.{AtWork};
-ghost use Rattle.phase_core.specs.Workers.{Mentions, ShowsMention, IsMentioned, IsWithin, IsOwnCheck, IsInnerFold, MayNote, Noted, HasNoted, Learned, MayRead, DidRead, MayFold, Folded, MayClaim, DidClaim, MayPublish, Published};
-ghost use Rattle.phase_core.specs.Steps.{Answers};
+ghost use Rattle.phase_core.specs.Says.{Tells};
+ghost use Rattle.phase_core.specs.Workers.{Mentions, ShowsMention, IsMentioned, IsWithin};
+ghost use Rattle.phase_core.specs.Workers.{IsOwnCheck, IsInnerFold, MayNote, Noted, HasNoted};
+ghost use Rattle.phase_core.specs.Workers.{Learned, MayRead, DidRead, MayFold, Folded};
+ghost use Rattle.phase_core.specs.Workers.{MayClaim, DidClaim, MayPublish, Published};
+ghost use Rattle.phase_core.specs.Acts.{Acts};
 
 use crate::ask::{has_symbol, held_image, is_claim, job_of, same};
 use crate::closure::reach_from;
@@ -17,18 +21,18 @@ use std::alloc::Global;
 /// A worker notes an edge.
 pub(crate) fn note(
     alloc: Global,
-    state: &CoreState,
+    state: &mut CoreState,
     worker: u32,
     edge: &CoreEdge,
-) -> Result<Option<CoreState>, NoMemory>
-    ensures { IfOk result (Answers (MayNote state.now worker edge.now) (Noted state.now edge.now)) }
+) -> Result<bool, NoMemory>
+    ensures { IfOk result
+        (Acts (MayNote state.old worker edge.now) (Noted state.old edge.now) state.new) }
 {
     if !may_note(alloc, state, worker, edge)? {
-        return Ok(None);
+        return Ok(false);
     }
-    let mut next = state.copied(alloc)?;
-    next.edges.insert(*edge)?;
-    Ok(Some(next))
+    state.edges.insert(*edge)?;
+    Ok(true)
 }
 
 // Whether the worker may note this edge.
@@ -38,9 +42,9 @@ fn may_note(
     worker: u32,
     edge: &CoreEdge,
 ) -> Result<bool, NoMemory>
-    ensures { IfOk result (λ answer. IsTrue answer ↔ MayNote state.now worker edge.now) }
+    ensures { IfOk result (Tells (MayNote state.now worker edge.now)) }
 {
-    match job_of(state, worker) {
+    match job_of(&state.workers, worker) {
         Some((symbol, check, known)) => {
             if edge.fold {
                 is_inner_fold(alloc, &state.world, edge)
@@ -61,7 +65,7 @@ fn is_own_check(
     known: &SymbolMap<CoreImage>,
     edge: &CoreEdge,
 ) -> Result<bool, NoMemory>
-    ensures { IfOk result (λ answer. IsTrue answer ↔ IsOwnCheck world.now symbol.now check known.now edge.now) }
+    ensures { IfOk result (Tells (IsOwnCheck world.now symbol.now check known.now edge.now)) }
 {
     if !check {
         return Ok(false);
@@ -83,7 +87,7 @@ fn is_within(
     known: &SymbolMap<CoreImage>,
     to: &SymbolId,
 ) -> Result<bool, NoMemory>
-    ensures { IfOk result (λ answer. IsTrue answer ↔ IsWithin world.now symbol.now known.now to.now) }
+    ensures { IfOk result (Tells (IsWithin world.now symbol.now known.now to.now)) }
 {
     if same(*to, *symbol) {
         return Ok(true);
@@ -110,7 +114,7 @@ fn is_mentioned(
     known: &SymbolMap<CoreImage>,
     symbol: &SymbolId,
 ) -> Result<bool, NoMemory>
-    ensures { IfOk result (λ answer. IsTrue answer ↔ IsMentioned known.now symbol.now) }
+    ensures { IfOk result (Tells (IsMentioned known.now symbol.now)) }
 {
     let keys = known.symbols(alloc)?;
     for key in &keys {
@@ -128,7 +132,7 @@ fn shows_mention(
     key: SymbolId,
     symbol: &SymbolId,
 ) -> Result<bool, NoMemory>
-    ensures { IfOk result (λ answer. IsTrue answer ↔ ShowsMention (finite.get known.now key) symbol.now) }
+    ensures { IfOk result (Tells (ShowsMention (finite.get known.now key) symbol.now)) }
 {
     match known.get(key) {
         Some(image) => image_mentions(alloc, image, symbol),
@@ -138,7 +142,7 @@ fn shows_mention(
 
 // Whether a declaration in this image does.
 fn image_mentions(alloc: Global, image: &CoreImage, symbol: &SymbolId) -> Result<bool, NoMemory>
-    ensures { IfOk result (λ answer. IsTrue answer ↔ ShowsMention (Some image.now) symbol.now) }
+    ensures { IfOk result (Tells (ShowsMention (Some image.now) symbol.now)) }
 {
     let members = image.symbols(alloc)?;
     for member in &members {
@@ -162,7 +166,7 @@ fn mentions(image: &CoreImage, member: SymbolId, symbol: &SymbolId) -> bool
 
 // Whether it is a fold edge from a declared symbol into its closure.
 fn is_inner_fold(alloc: Global, world: &SymbolMap<Decl>, edge: &CoreEdge) -> Result<bool, NoMemory>
-    ensures { IfOk result (λ answer. IsTrue answer ↔ IsInnerFold world.now edge.now) }
+    ensures { IfOk result (Tells (IsInnerFold world.now edge.now)) }
 {
     if !edge.fold {
         return Ok(false);
@@ -178,7 +182,7 @@ fn is_inner_fold(alloc: Global, world: &SymbolMap<Decl>, edge: &CoreEdge) -> Res
 fn has_noted(state: &CoreState, worker: u32, symbol: SymbolId) -> bool
     ensures { IsTrue result ↔ HasNoted state.now worker symbol }
 {
-    match job_of(state, worker) {
+    match job_of(&state.workers, worker) {
         Some((own, _, _)) => state.edges.contains(CoreEdge {
             fold: false,
             from: own,
@@ -188,25 +192,22 @@ fn has_noted(state: &CoreState, worker: u32, symbol: SymbolId) -> bool
     }
 }
 
-// The worker knows this image too; none where it isn't at work.
+// The worker knows this image too; no where it isn't at work.
 fn learn(
     alloc: Global,
-    state: &CoreState,
+    state: &mut CoreState,
     worker: u32,
     symbol: SymbolId,
     image: CoreImage,
-) -> Result<Option<CoreState>, NoMemory>
-    ensures { IfOk result (λ answer.
-        MatchOption answer (¬ AtWork state.now worker (λ _ _ _. Unit {0}))
-        (Learned state.now worker symbol image)) }
+) -> Result<bool, NoMemory>
+    ensures { IfOk result (Acts (AtWork state.old worker (λ _ _ _. Unit {0}))
+        (Learned state.old worker symbol image) state.new) }
 {
-    match job_of(state, worker) {
+    match job_of(&state.workers, worker) {
         Some((own, check, known)) => {
-            let mut known = known.copied(alloc)?;
-            known.insert(symbol, image)?;
-            let mut next = state.copied(alloc)?;
+            let known = known_with(alloc, known, symbol, image)?;
             set_worker(
-                &mut next,
+                state,
                 worker,
                 CoreWorker::Work {
                     symbol: own,
@@ -214,43 +215,60 @@ fn learn(
                     known,
                 },
             );
-            Ok(Some(next))
+            Ok(true)
         }
-        None => Ok(None),
+        None => Ok(false),
     }
+}
+
+// What is known, and this image.
+fn known_with(
+    alloc: Global,
+    known: &SymbolMap<CoreImage>,
+    symbol: SymbolId,
+    image: CoreImage,
+) -> Result<SymbolMap<CoreImage>, NoMemory>
+    ensures { IfOk result (λ more. more ≡ finite.insert known.now symbol image) }
+{
+    let mut more = known.copied(alloc)?;
+    more.insert(symbol, image)?;
+    Ok(more)
 }
 
 /// A worker reads a record.
 pub(crate) fn read(
     alloc: Global,
-    state: &CoreState,
+    state: &mut CoreState,
     worker: u32,
     symbol: &SymbolId,
-) -> Result<Option<CoreState>, NoMemory>
-    ensures { IfOk result (Answers (MayRead state.now worker symbol.now)
-        (DidRead state.now worker symbol.now)) }
+) -> Result<bool, NoMemory>
+    ensures { IfOk result (Acts (MayRead state.old worker symbol.now)
+        (DidRead state.old worker symbol.now) state.new) }
 {
     if !has_noted(state, worker, *symbol) {
-        return Ok(None);
+        return Ok(false);
     }
-    match held_image(state, *symbol) {
-        Some(image) => learn(alloc, state, worker, *symbol, image.copied(alloc)?),
-        None => Ok(None),
+    match held_image(&state.records, *symbol) {
+        Some(image) => {
+            let image = image.copied(alloc)?;
+            learn(alloc, state, worker, *symbol, image)
+        }
+        None => Ok(false),
     }
 }
 
 /// A worker folds by itself.
 pub(crate) fn fold(
     alloc: Global,
-    state: &CoreState,
+    state: &mut CoreState,
     worker: u32,
     symbol: &SymbolId,
-) -> Result<Option<CoreState>, NoMemory>
-    ensures { IfOk result (Answers (MayFold state.now worker symbol.now)
-        (Folded state.now worker symbol.now)) }
+) -> Result<bool, NoMemory>
+    ensures { IfOk result (Acts (MayFold state.old worker symbol.now)
+        (Folded state.old worker symbol.now) state.new) }
 {
     if !may_fold(alloc, state, worker, symbol)? {
-        return Ok(None);
+        return Ok(false);
     }
     let image = image_of(alloc, &state.world, *symbol)?;
     learn(alloc, state, worker, *symbol, image)
@@ -263,7 +281,7 @@ fn may_fold(
     worker: u32,
     symbol: &SymbolId,
 ) -> Result<bool, NoMemory>
-    ensures { IfOk result (λ answer. IsTrue answer ↔ MayFold state.now worker symbol.now) }
+    ensures { IfOk result (Tells (MayFold state.now worker symbol.now)) }
 {
     if has_noted(state, worker, *symbol) {
         is_covered(alloc, &state.world, &state.edges, symbol)
@@ -273,28 +291,22 @@ fn may_fold(
 }
 
 /// A worker claims the record of a symbol.
-pub(crate) fn claim(
-    alloc: Global,
-    state: &CoreState,
-    worker: u32,
-    symbol: &SymbolId,
-) -> Result<Option<CoreState>, NoMemory>
-    ensures { IfOk result (Answers (MayClaim state.now worker symbol.now)
-        (DidClaim state.now worker symbol.now)) }
+pub(crate) fn claim(state: &mut CoreState, worker: u32, symbol: &SymbolId) -> Result<bool, NoMemory>
+    ensures { IfOk result (Acts (MayClaim state.old worker symbol.now)
+        (DidClaim state.old worker symbol.now) state.new) }
 {
     if !may_claim(state, worker, symbol) {
-        return Ok(None);
+        return Ok(false);
     }
-    let mut next = state.copied(alloc)?;
-    next.records.insert(*symbol, CoreRecord::Claimed(worker))?;
-    Ok(Some(next))
+    state.records.insert(*symbol, CoreRecord::Claimed(worker))?;
+    Ok(true)
 }
 
 // Whether the worker may claim it.
 fn may_claim(state: &CoreState, worker: u32, symbol: &SymbolId) -> bool
     ensures { IsTrue result ↔ MayClaim state.now worker symbol.now }
 {
-    match job_of(state, worker) {
+    match job_of(&state.workers, worker) {
         Some(_) => state.world.has(*symbol) && !state.records.has(*symbol),
         None => false,
     }
@@ -303,20 +315,19 @@ fn may_claim(state: &CoreState, worker: u32, symbol: &SymbolId) -> bool
 /// A worker has written the record that it claimed.
 pub(crate) fn publish(
     alloc: Global,
-    state: &CoreState,
+    state: &mut CoreState,
     worker: u32,
     symbol: &SymbolId,
-) -> Result<Option<CoreState>, NoMemory>
-    ensures { IfOk result (Answers (MayPublish state.now worker symbol.now)
-        (Published state.now symbol.now)) }
+) -> Result<bool, NoMemory>
+    ensures { IfOk result (Acts (MayPublish state.old worker symbol.now)
+        (Published state.old symbol.now) state.new) }
 {
     if !may_publish(alloc, state, worker, symbol)? {
-        return Ok(None);
+        return Ok(false);
     }
     let image = image_of(alloc, &state.world, *symbol)?;
-    let mut next = state.copied(alloc)?;
-    next.records.insert(*symbol, CoreRecord::Held(image))?;
-    Ok(Some(next))
+    state.records.insert(*symbol, CoreRecord::Held(image))?;
+    Ok(true)
 }
 
 // Whether the worker may publish the record.
@@ -326,9 +337,9 @@ fn may_publish(
     worker: u32,
     symbol: &SymbolId,
 ) -> Result<bool, NoMemory>
-    ensures { IfOk result (λ answer. IsTrue answer ↔ MayPublish state.now worker symbol.now) }
+    ensures { IfOk result (Tells (MayPublish state.now worker symbol.now)) }
 {
-    if is_claim(state, worker, *symbol) {
+    if is_claim(&state.records, worker, *symbol) {
         is_covered(alloc, &state.world, &state.edges, symbol)
     } else {
         Ok(false)

@@ -1,8 +1,7 @@
-use Rattle.std.proofs.Common.{◌≡◌, take, true}
-use Rattle.std.specs.Prelude.{Contains}
+use Rattle.std.proofs.Common.{◌≡◌, true}
 use Rattle.std.specs.FinSet.{contains}
-use Rattle.hack_types.specs.declared.ids.SymbolId.{SymbolId}
+use Rattle.phase_core.specs.Inside.{AllSoFar}
 use Rattle.phase_core.proofs.image.has_all.Given as goal
 
 abbrev pub invariant-loop-symbol : goal.invariant-loop-symbol
-invariant-loop-symbol l = (s : SymbolId) → Contains (take l.symbol-index l.symbols) s → contains l.set s ≡ true
+invariant-loop-symbol l = AllSoFar (λ s. contains l.set s ≡ true) l.symbols l.symbol-index

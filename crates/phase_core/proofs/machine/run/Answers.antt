@@ -1,24 +1,20 @@
-use Rattle.std.proofs.Common.{◌≤◌, sym, length, arith}
+use Rattle.std.proofs.Common.{sym, subst, List, Option, Some, None}
+use Rattle.std.specs.Prelude.{MatchOption, IfSome}
+use Rattle.phase_core.specs.declared.event.Event.{Event}
+use Rattle.phase_core.specs.declared.state.CoreState.{CoreState}
 use Rattle.phase_core.specs.States.{empty_state}
-use Rattle.phase_core.proofs.Running.{answered, unanswered, run_on, run_whole, run_stuck}
+use Rattle.phase_core.specs.Steps.{Runs, IsStuck}
+use Rattle.phase_core.specs.Sound.{Sound}
+use Rattle.phase_core.proofs.Running.{ran}
 use Rattle.phase_core.proofs.Always.{always_sound}
 use Rattle.phase_core.proofs.machine.run.Goals as goal
 
-pub loop-event-init : goal.loop-event-init
-loop-event-init c = sym c.empty-state.ensures
+sound_by : (events : List Event) (answer : Option CoreState) → MatchOption answer (IsStuck empty_state events) (Runs empty_state events) → IfSome answer Sound
+sound_by events None h = tt
+sound_by events (Some state) h = always_sound events state h
 
-pub loop-event-preserved : goal.loop-event-preserved
-loop-event-preserved c = run_on c.args.events.now c.loop-event.event-index c.event-item.result empty_state c.loop-event.state c.in-Some.next c.loop-event-test.true c.event-item.is c.loop-event.invariant (answered c.loop-event.state c.event-item.result _ _ c.in_ok-next.ensures c.in-Some.is).0 (answered c.loop-event.state c.event-item.result _ _ c.in_ok-next.ensures c.in-Some.is).1
-
-pub returns-in-None-clause-follows : goal.returns-in-None-clause-follows
-returns-in-None-clause-follows c = run_stuck c.args.events.now c.loop-event.event-index c.event-item.result empty_state c.loop-event.state c.loop-event-test.true c.event-item.is c.loop-event.invariant (unanswered c.loop-event.state c.event-item.result _ c.in_ok-next.ensures c.in-None.is)
-
-pub returns-clause-follows : goal.returns-clause-follows
-returns-clause-follows c =
-    let l : length c.args.events.now ≤ c.loop-event.event-index = omega arith in
-    run_whole c.args.events.now c.loop-event.event-index empty_state c.loop-event.state l c.loop-event.invariant
-
-pub returns-clause-sound : goal.returns-clause-sound
-returns-clause-sound c =
-    let l : length c.args.events.now ≤ c.loop-event.event-index = omega arith in
-    always_sound c.args.events.now c.loop-event.state (run_whole c.args.events.now c.loop-event.event-index empty_state c.loop-event.state l c.loop-event.invariant)
+pub returns : goal.returns
+returns c =
+    let follows = subst (λ (answer : Option CoreState). MatchOption answer (IsStuck empty_state c.args.events.now) (Runs empty_state c.args.events.now)) (sym c.then_some.ensures)
+    (ran c.empty-state.result empty_state c.act_all.new.state c.args.events.now c.in_ok-done.done c.empty-state.ensures c.in_ok-done.ensures) in
+    record { follows = follows; sound = sound_by c.args.events.now c.then_some.result follows }

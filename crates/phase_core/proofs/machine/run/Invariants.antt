@@ -1,7 +1,0 @@
-use Rattle.std.proofs.Common.{take}
-use Rattle.phase_core.specs.Steps.{Runs}
-use Rattle.phase_core.specs.States.{empty_state}
-use Rattle.phase_core.proofs.machine.run.Given as goal
-
-abbrev pub invariant-loop-event : goal.invariant-loop-event
-invariant-loop-event l = Runs empty_state (take l.event-index l.events) l.state
