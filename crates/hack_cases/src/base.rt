@@ -5,18 +5,25 @@ use case_table::{Cases, cases};
 use hack_base::{Bytes, Name};
 use hack_builtin::builtin_text;
 use hack_types::NoMemory;
-use std::alloc::Global;
+use std::alloc::{AllocError, Global};
+use std::cmp::Ordering;
 use std::test::Fail;
+
+// Whether a copy, its vector and what is made of that have these bytes.
+fn come_back(alloc: Global, bytes: &[u8]) -> Result<bool, AllocError> {
+    let copy = Bytes::copy_of(alloc, bytes)?;
+    let in_copy = copy.as_slice() == bytes;
+    let vector = copy.into_vec();
+    let in_vector = vector.as_slice() == bytes;
+    let again = Bytes::from_vec(vector);
+    Ok(in_copy && in_vector && again.as_slice() == bytes)
+}
 
 #[test]
 fn bytes_are_given_back_as_they_came(rt: HostRuntime) -> Result<(), Fail> {
     let cases: [&[u8]; 3] = [b"", b"a", b"a.hack\n\0\xff "];
     for case in cases {
-        let copy = Bytes::copy_of(rt.alloc(), case)?;
-        assert_eq!(rt; copy.as_slice(), case);
-        let vector = copy.into_vec();
-        assert_eq!(rt; vector.as_slice(), case);
-        assert_eq!(rt; Bytes::from_vec(vector).as_slice(), case);
+        assert!(rt; come_back(rt.alloc(), case)?, "{case:?}");
     }
     Ok(())
 }
@@ -29,11 +36,15 @@ fn names_are_in_the_order_of_their_bytes(rt: HostRuntime) {
     ];
     for (i, a) in rising.iter().enumerate() {
         for (j, b) in rising.iter().enumerate() {
-            let (a, b) = (Name::new(a), Name::new(b));
-            assert_eq!(rt; a.cmp(&b), i.cmp(&j), "{a:?} beside {b:?}");
-            assert_eq!(rt; a == b, i == j, "{a:?} beside {b:?}");
+            assert!(rt; stand_so(a, b, i.cmp(&j)), "names {i} and {j}");
         }
     }
+}
+
+// Whether two names stand so to each other, and are equal exactly where that says it.
+fn stand_so(a: &[u8], b: &[u8], order: Ordering) -> bool {
+    let (a, b) = (Name::new(a), Name::new(b));
+    a.cmp(&b) == order && (a == b) == (order == Ordering::Equal)
 }
 
 /// The value of a word in the table of `a`, `ab` and `b`.

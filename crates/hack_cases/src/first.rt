@@ -4,6 +4,7 @@ use crate::parse::read;
 use crate::run::{Table, run_rows};
 use hack_first::{FirstUnit, Primitive, Returned, are_first, first_unit};
 use hack_show::Out;
+use hack_tree::Unit;
 use hack_types::{Names, NoMemory};
 use std::alloc::Global;
 use std::test::Fail;
@@ -35,21 +36,24 @@ pub(crate) fn units(alloc: Global, text: &[u8]) -> Result<Vec<u8>, NoMemory> {
     let mut names = Names::new(alloc);
     let tree = read(alloc, &mut names, text)?;
     let mut out = Out::new(alloc, &names);
-    match tree {
-        Some(tree) => {
-            for unit in tree.units.as_slice() {
-                match first_unit(unit) {
-                    Some(unit) => show(&mut out, &unit),
-                    None => out.word("-"),
-                }
-            }
-            if are_first(tree.units.as_slice()) {
-                out.word("all");
-            }
-        }
+    match &tree {
+        Some(tree) => show_all(&mut out, tree.units.as_slice()),
         None => out.word("fault"),
     }
+    drop(tree);
     out.finish()
+}
+
+fn show_all(out: &mut Out<'_>, units: &[Unit]) {
+    for unit in units {
+        match first_unit(unit) {
+            Some(unit) => show(out, &unit),
+            None => out.word("-"),
+        }
+    }
+    if are_first(units) {
+        out.word("all");
+    }
 }
 
 #[test]

@@ -11,7 +11,11 @@ mod diagnostics;
 #[cfg(test)]
 mod first;
 #[cfg(test)]
+mod folding;
+#[cfg(test)]
 mod lexer;
+#[cfg(test)]
+mod machine;
 #[cfg(test)]
 mod naming;
 #[cfg(test)]

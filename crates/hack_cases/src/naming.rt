@@ -2,7 +2,7 @@
 
 use crate::plain::split;
 use crate::run::{Table, run_rows};
-use hack_names::{NamingTable, UnitHead};
+use hack_names::{NamingTable, UnitHead, UnitRef};
 use hack_types::{Kind, NameId, NoMemory, Place, SymbolId};
 use std::alloc::Global;
 use std::test::Fail;
@@ -94,18 +94,31 @@ pub(crate) fn counted(alloc: Global, text: &[u8]) -> Result<Vec<u8>, NoMemory> {
         rest = behind;
     }
     let mut out = Vec::new(alloc);
+    show_winners(alloc, &mut out, &table)?;
+    out.extend_from_slice(b" but not")?;
+    let losers = table.losers(alloc)?;
+    let shown = show_losers(alloc, &mut out, &losers);
+    drop(losers);
+    shown?;
+    Ok(out)
+}
+
+fn show_winners(alloc: Global, out: &mut Vec<u8>, table: &NamingTable) -> Result<(), NoMemory> {
     for (kind, number) in ASKED {
         match table.winner(symbol(kind, number)) {
-            Some(unit) => show(alloc, &mut out, unit.file, unit.head.index)?,
+            Some(unit) => show(alloc, out, unit.file, unit.head.index)?,
             None => out.extend_from_slice(b"-;")?,
         }
     }
-    out.extend_from_slice(b" but not")?;
-    for unit in table.losers(alloc)? {
+    Ok(())
+}
+
+fn show_losers(alloc: Global, out: &mut Vec<u8>, losers: &[UnitRef]) -> Result<(), NoMemory> {
+    for unit in losers {
         out.push(b' ')?;
-        show(alloc, &mut out, unit.file.as_slice(), unit.head.index)?;
+        show(alloc, out, unit.file.as_slice(), unit.head.index)?;
     }
-    Ok(out)
+    Ok(())
 }
 
 #[test]

@@ -3,7 +3,7 @@ use crate::run::{Table, run_rows};
 use hack_parse_decl::{ParseStop, parse_file, room_by_length};
 use hack_show::{Out, show_tree};
 use hack_tree::FileTree;
-use hack_types::{Names, NoMemory};
+use hack_types::{Names, NoMemory, Place};
 use std::alloc::Global;
 use std::test::Fail;
 
@@ -27,34 +27,43 @@ pub(crate) fn read(
 /// `ok N` for a file of N declarations, or `CODE LINE:COLUMN`.
 pub(crate) fn counted(alloc: Global, text: &[u8]) -> Result<Vec<u8>, NoMemory> {
     let mut names = Names::new(alloc);
-    if text.len() > 1_048_576 || names.count() > 1_000_000 {
-        return Ok(Vec::new(alloc));
-    }
-    room_by_length();
-    match parse_file(alloc, &mut names, text) {
-        Ok(tree) => {
-            let count = tree.units.len();
-            Ok(format!(in alloc; "ok {count}")?.into_bytes())
-        }
-        Err(ParseStop::Fault { place, code }) => {
-            let line = place.line;
-            let column = place.column;
-            Ok(format!(in alloc; "{code} {line}:{column}")?.into_bytes())
-        }
+    let found = count_units(alloc, &mut names, text);
+    drop(names);
+    match found {
+        Ok(count) => Ok(format!(in alloc; "ok {count}")?.into_bytes()),
+        Err(ParseStop::Fault { place, code }) => fault(alloc, place, code),
         Err(ParseStop::NoMemory) => Err(NoMemory),
     }
 }
 
+// How many declarations a file of at most 1 MiB has; a row has no longer one.
+fn count_units(alloc: Global, names: &mut Names, text: &[u8]) -> Result<usize, ParseStop> {
+    if text.len() > 1_048_576 || names.count() > 1_000_000 {
+        return Err(ParseStop::NoMemory);
+    }
+    room_by_length();
+    let tree = parse_file(alloc, names, text)?;
+    let count = tree.units.len();
+    drop(tree);
+    Ok(count)
+}
+
+fn fault(alloc: Global, place: Place, code: u16) -> Result<Vec<u8>, NoMemory> {
+    let line = place.line;
+    let column = place.column;
+    Ok(format!(in alloc; "{code} {line}:{column}")?.into_bytes())
+}
+
 pub(crate) fn tree(alloc: Global, text: &[u8]) -> Result<Vec<u8>, NoMemory> {
     let mut names = Names::new(alloc);
-    match read(alloc, &mut names, text)? {
-        Some(tree) => {
-            let mut out = Out::new(alloc, &names);
-            show_tree(&mut out, &tree);
-            out.finish()
-        }
-        None => Ok(Vec::from_slice(alloc, b"fault")?),
+    let tree = read(alloc, &mut names, text)?;
+    let mut out = Out::new(alloc, &names);
+    match &tree {
+        Some(tree) => show_tree(&mut out, tree),
+        None => out.word("fault"),
     }
+    drop(tree);
+    out.finish()
 }
 
 #[test]

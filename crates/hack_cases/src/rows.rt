@@ -2,7 +2,9 @@
 
 pub(crate) mod diag;
 pub(crate) mod first;
+pub(crate) mod folding;
 pub(crate) mod lexer;
+pub(crate) mod machine;
 pub(crate) mod naming;
 pub(crate) mod parse_decl;
 pub(crate) mod scripts;

@@ -1,7 +1,10 @@
 // The tables of rows, and how they are tried.
 
 use crate::plain::{plain, shown};
-use crate::{base, diagnostics, first, lexer, naming, parse, rows, scripts, serve, shallow, types};
+use crate::{
+    base, diagnostics, first, folding, lexer, machine, naming, parse, rows, scripts, serve,
+    shallow, types,
+};
 use hack_types::NoMemory;
 use std::alloc::Global;
 
@@ -24,7 +27,10 @@ pub(crate) enum Table {
     Long,
     Trees,
     Signatures,
+    Folded,
+    Lines,
     Units,
+    Machine,
     Served,
     Stopped,
 }
@@ -48,7 +54,10 @@ impl Table {
             Table::Long => rows::parse_decl::LONG,
             Table::Trees => rows::parse_decl::TREES,
             Table::Signatures => rows::shallow::SIGNATURES,
+            Table::Folded => rows::folding::FOLDED,
+            Table::Lines => rows::folding::LINES,
             Table::Units => rows::first::UNITS,
+            Table::Machine => rows::machine::RUNS,
             Table::Served => rows::serve::SERVED,
             Table::Stopped => rows::serve::STOPPED,
         }
@@ -71,7 +80,10 @@ impl Table {
             Table::Files | Table::Long => parse::counted(alloc, text),
             Table::Trees => parse::tree(alloc, text),
             Table::Signatures => shallow::signatures(alloc, text),
+            Table::Folded => folding::last_folded(alloc, text),
+            Table::Lines => folding::last_line(alloc, text),
             Table::Units => first::units(alloc, text),
+            Table::Machine => machine::ended(alloc, text),
             Table::Served => serve::served(alloc, text),
             Table::Stopped => serve::stopped(alloc, text),
         }

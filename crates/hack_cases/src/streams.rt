@@ -1,6 +1,6 @@
 // Sources and sinks: over readers and writers that count their calls, and in memory.
 
-use hack_io::{MemorySink, MemorySource, ReadFault, Sink, Source, StdSink, StdSource, WriteFault};
+use hack_io::{MemorySink, MemorySource, Sink, Source, StdSink, StdSource, WriteFault};
 use std::alloc::{AllocError, Global};
 use std::io::{Error, ErrorKind, Read, Result as IoResult, Write};
 use std::test::Fail;
@@ -82,18 +82,39 @@ fn pulled(
 ) -> Result<String, AllocError> {
     let mut shown = String::new(alloc);
     for len in lens {
-        let mut into = pattern(alloc, *len)?;
-        match source.pull(into.as_mut_slice()) {
-            Ok(count) => {
-                shown.push_str(format!(in alloc; "{count},")?.as_str())?;
-                if let Some(bytes) = into.get(..count) {
-                    taken.extend_from_slice(bytes)?;
-                }
-            }
-            Err(ReadFault) => shown.push_str("!,")?,
-        }
+        let count = pull_once(alloc, source, *len, taken)?;
+        show_count(alloc, count, &mut shown)?;
     }
     Ok(shown)
+}
+
+// How many bytes one pull gives, or nothing for a fault. The bytes themselves go to `taken`.
+fn pull_once(
+    alloc: Global,
+    source: &mut impl Source,
+    len: usize,
+    taken: &mut Vec<u8>,
+) -> Result<Option<usize>, AllocError> {
+    let mut into = pattern(alloc, len)?;
+    let count = source.pull(into.as_mut_slice()).ok();
+    let kept = take_first(into.as_slice(), count.unwrap_or(0), taken);
+    drop(into);
+    kept?;
+    Ok(count)
+}
+
+fn take_first(bytes: &[u8], count: usize, taken: &mut Vec<u8>) -> Result<(), AllocError> {
+    match bytes.get(..count) {
+        Some(first) => taken.extend_from_slice(first),
+        None => Ok(()),
+    }
+}
+
+fn show_count(alloc: Global, count: Option<usize>, shown: &mut String) -> Result<(), AllocError> {
+    match count {
+        Some(count) => shown.push_str(format!(in alloc; "{count},")?.as_str()),
+        None => shown.push_str("!,"),
+    }
 }
 
 /// What the pushes of these pieces answer: `.` for each that is taken whole, and `!` for a fault.

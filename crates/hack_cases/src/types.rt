@@ -125,16 +125,19 @@ fn a_text_has_one_id_and_the_fixed_names_the_first(rt: HostRuntime) -> Result<()
 fn add_unions(alloc: Global, types: &mut Vec<HackType>) -> Result<(), NoMemory> {
     for (first, second) in [(0, 0), (1, 0), (2, 0), (1, 2), (2, 1)] {
         let mut members = Items::new(alloc);
-        for member in [first, second] {
-            match member {
-                1 => members.push(HackType::Int)?,
-                2 => members.push(HackType::Str)?,
-                _ => {}
-            }
-        }
+        add_member(&mut members, first)?;
+        add_member(&mut members, second)?;
         types.push(HackType::Union(members))?;
     }
     Ok(())
+}
+
+fn add_member(members: &mut Items<HackType>, number: u32) -> Result<(), NoMemory> {
+    match number {
+        1 => Ok(members.push(HackType::Int)?),
+        2 => Ok(members.push(HackType::Str)?),
+        _ => Ok(()),
+    }
 }
 
 #[test]

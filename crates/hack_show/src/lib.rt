@@ -5,6 +5,7 @@
 
 mod declaration;
 mod expression;
+mod folded;
 mod out;
 mod shallow;
 mod statement;
@@ -12,5 +13,6 @@ mod words;
 mod written;
 
 pub use declaration::{show_tree, show_unit};
+pub use folded::show_folded;
 pub use out::Out;
 pub use shallow::{show_shallow, show_type};

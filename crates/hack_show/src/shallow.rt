@@ -1,27 +1,17 @@
 // Signatures.
 
 use crate::{Out, words};
-use hack_types::{ClassSig, Fields, HackType, Member, MemberKind, Shallow, Signature, TypeParam};
+use hack_types::{
+    AliasSig, ClassSig, EnumSig, Fields, HackType, Member, MemberKind, Shallow, Signature,
+    TypeParam,
+};
 
 /// Adds the signature of a declaration.
 pub fn show_shallow(out: &mut Out<'_>, shallow: &Shallow) {
     match shallow {
         Shallow::ClassLike(class) => class_like(out, class),
-        Shallow::Enum(sig) => {
-            out.open("enum");
-            show_type(out, &sig.base);
-            if sig.bounded {
-                out.word("bounded");
-            }
-            for case in sig.cases.as_slice() {
-                out.name(*case);
-            }
-        }
-        Shallow::Alias(sig) => {
-            out.open("alias");
-            type_params(out, sig.type_params.as_slice());
-            show_type(out, &sig.body);
-        }
+        Shallow::Enum(sig) => enumeration(out, sig),
+        Shallow::Alias(sig) => alias(out, sig),
         Shallow::Function(sig) => {
             out.open("function");
             signature(out, sig);
@@ -32,6 +22,25 @@ pub fn show_shallow(out: &mut Out<'_>, shallow: &Shallow) {
         }
     }
     out.close();
+}
+
+// Begins an enum.
+pub(crate) fn enumeration(out: &mut Out<'_>, sig: &EnumSig) {
+    out.open("enum");
+    show_type(out, &sig.base);
+    if sig.bounded {
+        out.word("bounded");
+    }
+    for case in sig.cases.as_slice() {
+        out.name(*case);
+    }
+}
+
+// Begins an alias.
+pub(crate) fn alias(out: &mut Out<'_>, sig: &AliasSig) {
+    out.open("alias");
+    type_params(out, sig.type_params.as_slice());
+    show_type(out, &sig.body);
 }
 
 // Begins a class, an interface or a trait.
@@ -58,7 +67,7 @@ fn types_behind(out: &mut Out<'_>, word: &str, types: &[HackType]) {
     out.close();
 }
 
-fn type_params(out: &mut Out<'_>, all: &[TypeParam]) {
+pub(crate) fn type_params(out: &mut Out<'_>, all: &[TypeParam]) {
     for one in all {
         out.open("type");
         out.word(words::varying(one.variance));
@@ -70,7 +79,7 @@ fn type_params(out: &mut Out<'_>, all: &[TypeParam]) {
 }
 
 // A signature without the node around it.
-fn signature(out: &mut Out<'_>, sig: &Signature) {
+pub(crate) fn signature(out: &mut Out<'_>, sig: &Signature) {
     type_params(out, sig.type_params.as_slice());
     for one in sig.params.as_slice() {
         out.open(if one.optional { "optional" } else { "param" });
@@ -80,7 +89,7 @@ fn signature(out: &mut Out<'_>, sig: &Signature) {
     show_type(out, &sig.result);
 }
 
-fn member(out: &mut Out<'_>, shown: &Member) {
+pub(crate) fn member(out: &mut Out<'_>, shown: &Member) {
     let word = match &shown.kind {
         MemberKind::Constant(_) => "constant",
         MemberKind::Property(_) => "property",
@@ -179,7 +188,7 @@ fn node(out: &mut Out<'_>, ty: &HackType) {
 }
 
 #[cycle(types)]
-fn show_types(out: &mut Out<'_>, types: &[HackType]) {
+pub(crate) fn show_types(out: &mut Out<'_>, types: &[HackType]) {
     for ty in types {
         show_type(out, ty);
     }
