@@ -97,16 +97,44 @@ pub(crate) fn run_rows(alloc: Global, table: Table) -> Result<String, NoMemory> 
         if row.is_empty() {
             continue;
         }
-        let Some((text, wanted)) = row.split_once(" ¦ ") else {
-            return Ok(format!(in alloc; "no answer in: {row}")?);
-        };
-        let text = plain(alloc, text)?;
-        let found = table.answer(alloc, text.as_slice())?;
-        if found != plain(alloc, wanted)? {
-            let found = shown(alloc, found.as_slice())?;
-            return Ok(format!(in alloc; "{row}\nfound: {found}")?);
+        if let Some(fault) = fault_of(alloc, table, row)? {
+            return Ok(fault);
         }
         count = count.wrapping_add(1);
     }
     Ok(format!(in alloc; "{count} rows")?)
+}
+
+// What is wrong with a row, if anything is.
+fn fault_of(alloc: Global, table: Table, row: &str) -> Result<Option<String>, NoMemory> {
+    let Some((text, wanted)) = row.split_once(" ¦ ") else {
+        return Ok(Some(format!(in alloc; "no answer in: {row}")?));
+    };
+    let found = answer_to(alloc, table, text)?;
+    let fault = difference(alloc, row, found.as_slice(), wanted);
+    drop(found);
+    fault
+}
+
+fn answer_to(alloc: Global, table: Table, text: &str) -> Result<Vec<u8>, NoMemory> {
+    let text = plain(alloc, text)?;
+    let found = table.answer(alloc, text.as_slice());
+    drop(text);
+    found
+}
+
+fn difference(
+    alloc: Global,
+    row: &str,
+    found: &[u8],
+    wanted: &str,
+) -> Result<Option<String>, NoMemory> {
+    let wanted = plain(alloc, wanted)?;
+    let is_found = found == wanted.as_slice();
+    drop(wanted);
+    if is_found {
+        return Ok(None);
+    }
+    let found = shown(alloc, found)?;
+    Ok(Some(format!(in alloc; "{row}\nfound: {found}")?))
 }

@@ -6,6 +6,7 @@ use crate::plain::{plain, split};
 use crate::rows::types::DIFFERENT;
 use crate::run::{Table, run_rows};
 use hack_shallow::shallow_of;
+use hack_tree::Unit;
 use hack_types::{
     HackType, Kind, NameId, Names, NoMemory, Shallow, SymbolId, into_option, option_of,
 };
@@ -26,50 +27,89 @@ fn type_of(alloc: Global, shallow: &Shallow) -> Result<Option<HackType>, NoMemor
 // The type of each declaration.
 fn types_of(alloc: Global, text: &[u8]) -> Result<Vec<HackType>, NoMemory> {
     let mut names = Names::new(alloc);
+    let tree = read(alloc, &mut names, text);
+    drop(names);
+    let tree = tree?;
+    let types = match &tree {
+        Some(tree) => types_in(alloc, tree.units.as_slice()),
+        None => Ok(Vec::new(alloc)),
+    };
+    drop(tree);
+    types
+}
+
+fn types_in(alloc: Global, units: &[Unit]) -> Result<Vec<HackType>, NoMemory> {
     let mut types = Vec::new(alloc);
-    if let Some(tree) = read(alloc, &mut names, text)? {
-        for unit in tree.units.as_slice() {
-            let shallow = shallow_of(alloc, unit)?;
-            if let Some(ty) = type_of(alloc, &shallow)? {
-                types.push(ty)?;
-            }
-        }
+    for unit in units {
+        add_type(alloc, unit, &mut types)?;
     }
     Ok(types)
+}
+
+fn add_type(alloc: Global, unit: &Unit, types: &mut Vec<HackType>) -> Result<(), NoMemory> {
+    let shallow = shallow_of(alloc, unit)?;
+    let ty = type_of(alloc, &shallow);
+    drop(shallow);
+    match ty? {
+        Some(ty) => Ok(types.push(ty)?),
+        None => Ok(()),
+    }
 }
 
 /// Whether the second type is the option of the first, made of it and of a copy of it, and its own option.
 pub(crate) fn optional(alloc: Global, text: &[u8]) -> Result<Vec<u8>, NoMemory> {
     let types = types_of(alloc, text)?;
+    let shown = match types.as_slice() {
+        [ty, wanted] => options(alloc, ty, wanted),
+        _ => Ok(Vec::new(alloc)),
+    };
+    drop(types);
+    shown
+}
+
+fn options(alloc: Global, ty: &HackType, wanted: &HackType) -> Result<Vec<u8>, NoMemory> {
     let mut out = Vec::new(alloc);
-    match types.as_slice() {
-        [ty, wanted] => {
-            if option_of(alloc, ty)?.same(wanted) {
-                out.extend_from_slice(b"its option")?;
-            }
-            if into_option(alloc, ty.copy(alloc)?)?.same(wanted) {
-                out.extend_from_slice(b", made of it")?;
-            }
-            if option_of(alloc, wanted)?.same(wanted) {
-                out.extend_from_slice(b", once")?;
-            }
-            if out.is_empty() {
-                out.push(b'-')?;
-            }
-        }
-        _ => {}
+    if is_same(option_of(alloc, ty), wanted)? {
+        out.extend_from_slice(b"its option")?;
+    }
+    if is_same(option_made_of(alloc, ty), wanted)? {
+        out.extend_from_slice(b", made of it")?;
+    }
+    if is_same(option_of(alloc, wanted), wanted)? {
+        out.extend_from_slice(b", once")?;
+    }
+    if out.is_empty() {
+        out.push(b'-')?;
     }
     Ok(out)
+}
+
+fn option_made_of(alloc: Global, ty: &HackType) -> Result<HackType, NoMemory> {
+    into_option(alloc, ty.copy(alloc)?)
+}
+
+fn is_same(found: Result<HackType, NoMemory>, wanted: &HackType) -> Result<bool, NoMemory> {
+    let found = found?;
+    let same = found.same(wanted);
+    drop(found);
+    Ok(same)
 }
 
 /// How many nodes the type has.
 pub(crate) fn nodes(alloc: Global, text: &[u8]) -> Result<Vec<u8>, NoMemory> {
     let types = types_of(alloc, text)?;
-    for ty in &types {
-        for limit in 0..300u32 {
-            if ty.is_within(limit) {
-                return Ok(format!(in alloc; "{limit}")?.into_bytes());
-            }
+    let shown = match types.first() {
+        Some(ty) => node_count(alloc, ty),
+        None => Ok(Vec::new(alloc)),
+    };
+    drop(types);
+    shown
+}
+
+fn node_count(alloc: Global, ty: &HackType) -> Result<Vec<u8>, NoMemory> {
+    for limit in 0..300u32 {
+        if ty.is_within(limit) {
+            return Ok(format!(in alloc; "{limit}")?.into_bytes());
         }
     }
     Ok(Vec::new(alloc))
@@ -85,19 +125,37 @@ pub(crate) fn interned(alloc: Global, text: &[u8]) -> Result<Vec<u8>, NoMemory> 
             break;
         }
         let (word, behind) = split(rest, b',');
-        if names.count() < 100 {
-            let id = names.intern(alloc, word)?;
-            let number = id.number();
-            out.extend_from_slice(format!(in alloc; "{number} ")?.as_bytes())?;
-            if names.text_of(id) != word {
-                out.extend_from_slice(b"of another text ")?;
-            }
-        }
+        add_id(alloc, &mut names, word, &mut out)?;
         rest = behind;
     }
     let count = names.count();
-    out.extend_from_slice(format!(in alloc; "of {count}")?.as_bytes())?;
+    drop(names);
+    push_text(&mut out, format!(in alloc; "of {count}")?)?;
     Ok(out)
+}
+
+fn add_id(
+    alloc: Global,
+    names: &mut Names,
+    word: &[u8],
+    out: &mut Vec<u8>,
+) -> Result<(), NoMemory> {
+    if names.count() >= 100 {
+        return Ok(());
+    }
+    let id = names.intern(alloc, word)?;
+    let number = id.number();
+    push_text(out, format!(in alloc; "{number} ")?)?;
+    if names.text_of(id) != word {
+        out.extend_from_slice(b"of another text ")?;
+    }
+    Ok(())
+}
+
+fn push_text(out: &mut Vec<u8>, text: String) -> Result<(), NoMemory> {
+    let done = out.extend_from_slice(text.as_bytes());
+    drop(text);
+    Ok(done?)
 }
 
 #[test]
