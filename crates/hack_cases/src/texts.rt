@@ -29,6 +29,21 @@ fn has_text(alloc: Global, names: &Names, ty: &HackType, text: &str) -> Result<b
     Ok(type_text(alloc, names, ty)?.as_slice() == text.as_bytes())
 }
 
+// Whether a type that was made has this text.
+fn is_written(
+    alloc: Global,
+    names: &Names,
+    made: Result<HackType, NoMemory>,
+    text: &str,
+) -> Result<bool, NoMemory>
+    requires { IfOk made (AreNames 11) }
+{
+    let ty = made?;
+    let is_written = has_text(alloc, names, &ty, text);
+    drop(ty);
+    is_written
+}
+
 // `?T`
 #[tactic(auto, using(crate::proofs::TypeNames::are_names_option))]
 fn option(alloc: Global, ty: HackType) -> Result<HackType, NoMemory>
@@ -110,6 +125,16 @@ fn shape(alloc: Global, some: bool, rest: bool) -> Result<HackType, NoMemory>
     Ok(HackType::Shape { fields, rest })
 }
 
+// The same once more.
+fn shape_copy(alloc: Global, some: bool, rest: bool) -> Result<HackType, NoMemory>
+    ensures { IfOk result (AreNames 11) }
+{
+    let ty = shape(alloc, some, rest)?;
+    let copy = ty.copy(alloc);
+    drop(ty);
+    copy
+}
+
 #[tactic(auto, using(crate::proofs::TypeNames::are_names_float, crate::proofs::TypeNames::are_names_class_param, crate::proofs::TypeNames::two_fields_rise))]
 fn two_fields(alloc: Global) -> Result<Fields<HackType>, NoMemory>
     ensures { IfOk result (λ fields. All (λ field. (field.key < 11) × AreNames 11 field.ty) fields) }
@@ -168,26 +193,35 @@ fn a_type_that_is_a_word_has_that_text(rt: HostRuntime) -> Result<(), NoMemory> 
     Ok(())
 }
 
+#[tactic(auto, using(crate::proofs::TypeNames::are_names_str))]
+fn optional_vector(alloc: Global) -> Result<HackType, NoMemory>
+    ensures { IfOk result (AreNames 11) }
+{
+    option(alloc, vector(alloc, HackType::Str)?)
+}
+
+#[tactic(auto, using(crate::proofs::TypeNames::are_names_arraykey))]
+fn keyset_of_keys(alloc: Global) -> Result<HackType, NoMemory>
+    ensures { IfOk result (AreNames 11) }
+{
+    keyset(alloc, HackType::Arraykey)
+}
+
+#[tactic(auto, using(crate::proofs::TypeNames::are_names_int, crate::proofs::TypeNames::are_names_bool))]
+fn dict_to_option(alloc: Global) -> Result<HackType, NoMemory>
+    ensures { IfOk result (AreNames 11) }
+{
+    dict(alloc, HackType::Int, option(alloc, HackType::Bool)?)
+}
+
 #[test]
-#[tactic(auto, using(crate::proofs::TypeNames::are_names_str, crate::proofs::TypeNames::are_names_arraykey, crate::proofs::TypeNames::are_names_int, crate::proofs::TypeNames::are_names_bool))]
 fn a_type_with_types_inside_is_written_around_them(rt: HostRuntime) -> Result<(), NoMemory> {
     let alloc = rt.alloc();
     let mut names = Names::new(alloc);
     add_names(alloc, &mut names)?;
-    let text = "?vec<string>";
-    assert!(rt;
-        has_text(
-            alloc,
-            &names,
-            &option(alloc, vector(alloc, HackType::Str)?)?,
-            text
-        )?
-    );
-    let text = "keyset<arraykey>";
-    assert!(rt; has_text(alloc, &names, &keyset(alloc, HackType::Arraykey)?, text)?);
-    let text = "dict<int, ?bool>";
-    let ty = dict(alloc, HackType::Int, option(alloc, HackType::Bool)?)?;
-    assert!(rt; has_text(alloc, &names, &ty, text)?);
+    assert!(rt; is_written(alloc, &names, optional_vector(alloc), "?vec<string>")?);
+    assert!(rt; is_written(alloc, &names, keyset_of_keys(alloc), "keyset<arraykey>")?);
+    assert!(rt; is_written(alloc, &names, dict_to_option(alloc), "dict<int, ?bool>")?);
     Ok(())
 }
 
@@ -202,11 +236,11 @@ fn arguments_and_members_stand_in_their_order(rt: HostRuntime) -> Result<(), NoM
         (2, "C<int, T>", "(int|T)"),
     ] {
         assert!(rt;
-            has_text(alloc, &names, &class(alloc, count)?, of_class)?,
+            is_written(alloc, &names, class(alloc, count), of_class)?,
             "class of {count}"
         );
         assert!(rt;
-            has_text(alloc, &names, &union(alloc, count)?, of_union)?,
+            is_written(alloc, &names, union(alloc, count), of_union)?,
             "union of {count}"
         );
     }
@@ -224,10 +258,12 @@ fn fields_stand_in_the_order_of_bytes(rt: HostRuntime) -> Result<(), NoMemory> {
         (true, false, "shape('alpha' => T, ?'zeta' => float)"),
         (true, true, "shape('alpha' => T, ?'zeta' => float, ...)"),
     ] {
-        let ty = shape(alloc, some, rest)?;
-        assert!(rt; has_text(alloc, &names, &ty, text)?, "{text}");
         assert!(rt;
-            has_text(alloc, &names, &ty.copy(alloc)?, text)?,
+            is_written(alloc, &names, shape(alloc, some, rest), text)?,
+            "{text}"
+        );
+        assert!(rt;
+            is_written(alloc, &names, shape_copy(alloc, some, rest), text)?,
             "copy of {text}"
         );
     }
@@ -236,63 +272,115 @@ fn fields_stand_in_the_order_of_bytes(rt: HostRuntime) -> Result<(), NoMemory> {
 
 // Whether the joined type is this one.
 fn joins_to(alloc: Global, types: &[HackType], wanted: &HackType) -> Result<bool, NoMemory> {
-    Ok(union_of(alloc, types)?.same(wanted))
+    is_same(union_of(alloc, types), wanted)
 }
 
-// `null` and what is inside `?` join as an option, repeats stand once, and more than eight members are `mixed`.
-#[test]
-fn types_are_joined(rt: HostRuntime) -> Result<(), NoMemory> {
-    let alloc = rt.alloc();
-    assert!(rt; joins_to(alloc, &[], &HackType::Nothing)?);
-    assert!(rt;
-        joins_to(
-            alloc,
-            &[HackType::Int, HackType::Nothing, HackType::Int],
-            &HackType::Int
-        )?
-    );
+fn is_same(made: Result<HackType, NoMemory>, wanted: &HackType) -> Result<bool, NoMemory> {
+    let ty = made?;
+    let is_same = ty.same(wanted);
+    drop(ty);
+    Ok(is_same)
+}
+
+// Repeats stand once, `nothing` goes, and `_` and `mixed` swallow what stands beside them.
+fn join_to_one(alloc: Global) -> Result<bool, NoMemory> {
+    let int = [HackType::Int, HackType::Nothing, HackType::Int];
+    let any = [HackType::Any, HackType::Mixed, HackType::Null];
+    let mixed = [HackType::Int, HackType::Mixed];
+    Ok(
+        joins_to(alloc, &[], &HackType::Nothing)?
+            && joins_to(alloc, &int, &HackType::Int)?
+            && joins_to(alloc, &any, &HackType::Any)?
+            && joins_to(alloc, &mixed, &HackType::Mixed)?,
+    )
+}
+
+// `null` makes an option of what stands beside it.
+fn join_to_option(alloc: Global) -> Result<bool, NoMemory> {
     let optional = HackType::Option(Boxed::new(alloc, HackType::Int)?);
-    assert!(rt; joins_to(alloc, &[HackType::Null, HackType::Int], &optional)?);
-    assert!(rt;
-        joins_to(
-            alloc,
-            &[HackType::Any, HackType::Mixed, HackType::Null],
-            &HackType::Any
-        )?
-    );
-    assert!(rt; joins_to(alloc, &[HackType::Int, HackType::Mixed], &HackType::Mixed)?);
+    let joined = joins_to(alloc, &[HackType::Null, HackType::Int], &optional);
+    drop(optional);
+    joined
+}
+
+fn int_or_string(alloc: Global) -> Result<HackType, NoMemory> {
     let mut members = Items::new(alloc);
     members.push(HackType::Int)?;
     members.push(HackType::Str)?;
-    let both = HackType::Union(members);
-    assert!(rt; joins_to(alloc, &[HackType::Int, HackType::Str, HackType::Int], &both)?);
-    assert!(rt; !joins_to(alloc, &[HackType::Str, HackType::Int], &both)?);
+    Ok(HackType::Union(members))
+}
+
+// Members stand in the order in which they come first.
+fn join_in_order(alloc: Global) -> Result<bool, NoMemory> {
+    let both = int_or_string(alloc)?;
+    let joined = joins_to(alloc, &[HackType::Int, HackType::Str, HackType::Int], &both);
+    let other = joins_to(alloc, &[HackType::Str, HackType::Int], &both);
+    drop(both);
+    Ok(joined? && !other?)
+}
+
+#[test]
+fn types_are_joined(rt: HostRuntime) -> Result<(), NoMemory> {
+    assert!(rt; join_to_one(rt.alloc())?);
+    assert!(rt; join_to_option(rt.alloc())?);
+    assert!(rt; join_in_order(rt.alloc())?);
     Ok(())
 }
 
-// Positions are those of the list, `_` stands where it is too short, and 257 nodes are too many.
+// `dict<U, T>` of two class parameters T and U.
+fn two_params(alloc: Global) -> Result<HackType, NoMemory> {
+    let first = HackType::ClassParam(0, NameId::new(10));
+    let second = HackType::ClassParam(1, NameId::new(10));
+    Ok(HackType::Dict(Boxed::new(alloc, second)?, Boxed::new(alloc, first)?))
+}
+
+// `dict<_, int>`
+fn any_to_int(alloc: Global) -> Result<HackType, NoMemory> {
+    Ok(HackType::Dict(
+        Boxed::new(alloc, HackType::Any)?,
+        Boxed::new(alloc, HackType::Int)?,
+    ))
+}
+
+// A class type of 129 nodes.
+fn large(alloc: Global) -> Result<HackType, NoMemory> {
+    let mut arguments = Items::new(alloc);
+    for _ in 0..128u32 {
+        arguments.push(HackType::Int)?;
+    }
+    Ok(HackType::Class(NameId::new(9), arguments))
+}
+
+// Positions are those of the list, and `_` stands where it is too short.
+fn are_put_in(alloc: Global, ty: &HackType) -> Result<bool, NoMemory> {
+    let wanted = any_to_int(alloc)?;
+    let put = match substitute(alloc, ty, &[HackType::Int]) {
+        Ok(found) => is_same(Ok(found), &wanted),
+        Err(_) => Ok(false),
+    };
+    drop(wanted);
+    put
+}
+
+// 257 nodes are too many.
+fn are_too_many(alloc: Global, ty: &HackType) -> Result<bool, NoMemory> {
+    let arguments = [large(alloc)?, large(alloc)?];
+    let put = substitute(alloc, ty, &arguments);
+    drop(arguments);
+    match put {
+        Err(SubstStop::TooBig) => Ok(true),
+        _ => Ok(false),
+    }
+}
+
 #[test]
 fn types_are_put_in(rt: HostRuntime) -> Result<(), NoMemory> {
     let alloc = rt.alloc();
-    let first = HackType::ClassParam(0, NameId::new(10));
-    let second = HackType::ClassParam(1, NameId::new(10));
-    let ty = HackType::Dict(Boxed::new(alloc, second)?, Boxed::new(alloc, first)?);
-    let wanted = HackType::Dict(
-        Boxed::new(alloc, HackType::Any)?,
-        Boxed::new(alloc, HackType::Int)?,
-    );
-    match substitute(alloc, &ty, &[HackType::Int]) {
-        Ok(found) => assert!(rt; found.same(&wanted)),
-        Err(_) => assert!(rt; false),
-    }
-    let mut large = Items::new(alloc);
-    for _ in 0..128u32 {
-        large.push(HackType::Int)?;
-    }
-    let argument = HackType::Class(NameId::new(9), large);
-    match substitute(alloc, &ty, &[argument.copy(alloc)?, argument]) {
-        Err(SubstStop::TooBig) => {}
-        _ => assert!(rt; false),
-    }
+    let ty = two_params(alloc)?;
+    let put = are_put_in(alloc, &ty);
+    let large = are_too_many(alloc, &ty);
+    drop(ty);
+    assert!(rt; put?);
+    assert!(rt; large?);
     Ok(())
 }
