@@ -1,4 +1,5 @@
 // Sources and sinks: over readers and writers that count their calls, and in memory.
+ghost use Rattle.std.specs.Prelude.{◌≤◌};
 
 use hack_io::{MemorySink, MemorySource, Sink, Source, StdSink, StdSource, WriteFault};
 use std::alloc::{AllocError, Global};
@@ -230,10 +231,44 @@ fn a_sink_writes_whole_pieces_and_goes_on_after_a_fault(rt: HostRuntime) -> Resu
     Ok(())
 }
 
-// The expected answers were worked out by hand from what the types say of their pieces, room and failing calls.
+// Whether six pulls into three bytes answer so, and give these bytes.
+fn gives(
+    alloc: Global,
+    source: &mut impl Source,
+    answers: &str,
+    bytes: &[u8],
+) -> Result<bool, AllocError> {
+    let mut taken = Vec::new(alloc);
+    let shown = pulled(alloc, source, &[3; 6], &mut taken);
+    let all = taken.as_slice() == bytes;
+    drop(taken);
+    let shown = shown?;
+    let told = shown.as_str() == answers;
+    drop(shown);
+    Ok(all && told)
+}
+
+// Whether a source of this text, by pieces and with these failing calls, answers so and gives the whole text.
+fn memory_gives(
+    alloc: Global,
+    text: &str,
+    piece: usize,
+    fail: &[u64],
+    answers: &str,
+) -> Result<bool, AllocError>
+    requires { 1 ≤ piece }
+{
+    let bytes = Vec::from_slice(alloc, text.as_bytes())?;
+    let fail = Vec::from_slice(alloc, fail)?;
+    let mut source = MemorySource::new(bytes, piece, fail);
+    let gives = gives(alloc, &mut source, answers, text.as_bytes());
+    drop(source);
+    gives
+}
+
+// The answers were worked out by hand from what the type says of its pieces and failing calls.
 #[test]
-fn memory_gives_takes_and_fails_as_told(rt: HostRuntime) -> Result<(), Fail> {
-    let alloc = rt.alloc();
+fn memory_gives_and_fails_as_told(rt: HostRuntime) -> Result<(), Fail> {
     let sources: [(&str, usize, &[u64], &str); 5] = [
         ("", 1, &[], "0,0,0,0,0,0,"),
         ("abcdefg", 2, &[], "2,2,2,1,0,0,"),
@@ -241,18 +276,37 @@ fn memory_gives_takes_and_fails_as_told(rt: HostRuntime) -> Result<(), Fail> {
         ("abcde", 3, &[2, 3], "3,!,!,2,0,0,"),
         ("ab", 5, &[4, 1], "!,2,0,!,0,0,"),
     ];
-    for (text, piece, fail, want) in sources {
+    for (text, piece, fail, answers) in sources {
         assert!(rt; piece >= 1);
-        let bytes = Vec::from_slice(alloc, text.as_bytes())?;
-        let fail = Vec::from_slice(alloc, fail)?;
-        let mut source = MemorySource::new(bytes, piece, fail);
-        let mut taken = Vec::new(alloc);
-        let shown = pulled(alloc, &mut source, &[3; 6], &mut taken)?;
-        assert_eq!(rt; shown.as_str(), want, "of {text:?} by {piece}");
-        assert_eq!(rt; taken.as_slice(), text.as_bytes(), "of {text:?} by {piece}");
+        assert!(rt;
+            memory_gives(rt.alloc(), text, piece, fail, answers)?,
+            "{text:?} by {piece}"
+        );
     }
+    Ok(())
+}
 
-    let sinks: [(usize, usize, &[u64], &[&[u8]], &str, &str); 5] = [
+/// Room, how much of a failing piece is kept, and the failing calls; the pieces; the answers, and what is taken.
+type SinkRow<'a> = (usize, usize, &'a [u64], &'a [&'a [u8]], &'a str, &'a str);
+
+// Whether a sink answers so, and takes so much.
+fn memory_takes(alloc: Global, row: SinkRow<'_>) -> Result<bool, Fail> {
+    let (room, keep, fail, pieces, answers, bytes) = row;
+    let fail = Vec::from_slice(alloc, fail)?;
+    let mut sink = MemorySink::new(alloc, room, keep, fail)?;
+    let shown = pushed(alloc, &mut sink, pieces);
+    let all = sink.bytes() == bytes.as_bytes();
+    drop(sink);
+    let shown = shown?;
+    let told = shown.as_str() == answers;
+    drop(shown);
+    Ok(all && told)
+}
+
+// The answers were worked out by hand from what the type says of its room and failing calls.
+#[test]
+fn memory_takes_and_fails_as_told(rt: HostRuntime) -> Result<(), Fail> {
+    let rows: [SinkRow<'_>; 5] = [
         (5, 0, &[], &[b"ab", b"", b"cde"], "...", "abcde"),
         (4, 0, &[], &[b"abc", b"de", b"f"], ".!.", "abcf"),
         (4, 9, &[], &[b"abc", b"de", b"f"], ".!!", "abcd"),
@@ -266,12 +320,8 @@ fn memory_gives_takes_and_fails_as_told(rt: HostRuntime) -> Result<(), Fail> {
         ),
         (0, 1, &[], &[b"", b"a"], ".!", ""),
     ];
-    for (room, keep, fail, pieces, answers, want) in sinks {
-        let fail = Vec::from_slice(alloc, fail)?;
-        let mut sink = MemorySink::new(alloc, room, keep, fail)?;
-        let shown = pushed(alloc, &mut sink, pieces)?;
-        assert_eq!(rt; shown.as_str(), answers, "into {room} with {keep}");
-        assert_eq!(rt; sink.bytes(), want.as_bytes(), "into {room} with {keep}");
+    for (number, row) in rows.into_iter().enumerate() {
+        assert!(rt; memory_takes(rt.alloc(), row)?, "row {number}");
     }
     Ok(())
 }
