@@ -17,13 +17,13 @@ use Rattle.hack_parse_expr.specs.declared.rows.DeclarationRow.TheVariants as row
 use Rattle.hack_parse_expr.specs.Input.{Input, relative}
 use Rattle.hack_parse_expr.specs.Kinds.{next_kind}
 use Rattle.hack_parse_expr.specs.Decides.{declaration_row}
-use Rattle.hack_parse_expr.specs.Symbols.{Mark_, Keyword_, Name, Declared}
+use Rattle.hack_parse_expr.specs.Symbols.{Mark_, Name, Declared}
 use Rattle.hack_parse_expr.specs.Rows.{declared_name}
 use Rattle.hack_parse_expr.specs.Run.{deepest}
 use Rattle.hack_parse_expr.specs.Parsers.{Outcome, token, expect, starting, starting_at}
 use Rattle.hack_parse_stmt.specs.Statements.{begins_statement, statements, block, statement}
 use Rattle.hack_parse_decl.specs.Files.{absolute}
-use Rattle.hack_parse_decl.specs.Declarations.{type_read, name_read, attributes_if_any, type_parameters_if_any, default_value, signature, types_behind, members, interface_members, class_modifiers, extends_if_any, bound_if_any, enum_cases, function, class, interface, trait_unit, enum_unit, alias, constant, declaration_by, declared, declaration}
+use Rattle.hack_parse_decl.specs.Declarations.{name_read, attributes_if_any, signature, members, interface_members, class_words, class_head, head, enum_head, enum_block, alias_parts, constant_parts, function, class, interface, trait_unit, enum_unit, alias, constant, declaration_by, declared, declaration}
 use Rattle.hack_first.specs.declared.unit.Primitive.{Primitive}
 use Rattle.hack_first.specs.declared.unit.Returned.{Returned}
 use Rattle.hack_first.specs.Functions.{Function, Value, named, value_of as value_told, function_of}
@@ -221,28 +221,22 @@ declaration_row_back names before None i rest start tree f some at h = absurd cc
 declaration_row_back names before (Some row.Function) i rest start tree f some at h = function_back names before i rest start tree f some (function_row (next_kind i.left) at) h
 declaration_row_back names before (Some row.Class) i rest start tree f some at h =
     let P = NoFirst names start in
-    absurd (tree_never names start _ tree rest f (always_then P (class_modifiers i) _ (λ _ i0. always_then P (expect (Keyword_ keyword.Class) i0) _ (λ _ i1. always_then P (name_read i1) _ (λ _ i2. always_then P (type_parameters_if_any i2) _ (λ _ i3.
-    always_then P (extends_if_any i3) _ (λ _ i4. always_then P (types_behind keyword.Implements i4) _ (λ _ i5. always_then P (members i5) _ (λ _ i6. refl)))))))) some h)
+    absurd (tree_never names start _ tree rest f (always_then P (class_words i) _ (λ _ i0. always_then P (class_head i0) _ (λ _ i1. always_then P (members i1) _ (λ _ i2. refl)))) some h)
 declaration_row_back names before (Some row.Interface) i rest start tree f some at h =
     let P = NoFirst names start in
-    absurd (tree_never names start _ tree rest f (always_then P (token i) _ (λ _ i0. always_then P (name_read i0) _ (λ _ i1. always_then P (type_parameters_if_any i1) _ (λ _ i2. always_then P (types_behind keyword.Extends i2) _ (λ _ i3.
-    always_then P (interface_members i3) _ (λ _ i4. refl)))))) some h)
+    absurd (tree_never names start _ tree rest f (always_then P (head keyword.Extends i) _ (λ _ i0. always_then P (interface_members i0) _ (λ _ i1. refl))) some h)
 declaration_row_back names before (Some row.Trait) i rest start tree f some at h =
     let P = NoFirst names start in
-    absurd (tree_never names start _ tree rest f (always_then P (token i) _ (λ _ i0. always_then P (name_read i0) _ (λ _ i1. always_then P (type_parameters_if_any i1) _ (λ _ i2. always_then P (types_behind keyword.Implements i2) _ (λ _ i3.
-    always_then P (members i3) _ (λ _ i4. refl)))))) some h)
+    absurd (tree_never names start _ tree rest f (always_then P (head keyword.Implements i) _ (λ _ i0. always_then P (members i0) _ (λ _ i1. refl))) some h)
 declaration_row_back names before (Some row.Enum) i rest start tree f some at h =
     let P = NoFirst names start in
-    absurd (tree_never names start _ tree rest f (always_then P (token i) _ (λ _ i0. always_then P (name_read i0) _ (λ _ i1. always_then P (expect (Mark_ mark.Colon) i1) _ (λ _ i2. always_then P (type_read i2) _ (λ _ i3.
-    always_then P (bound_if_any i3) _ (λ _ i4. always_then P (expect (Mark_ mark.OpenBrace) i4) _ (λ _ i5. always_then P (enum_cases i5) _ (λ _ i6. always_then P (expect (Mark_ mark.CloseBrace) i6) _ (λ _ i7. refl))))))))) some h)
+    absurd (tree_never names start _ tree rest f (always_then P (enum_head i) _ (λ _ i0. always_then P (enum_block i0) _ (λ _ i1. refl))) some h)
 declaration_row_back names before (Some row.Alias) i rest start tree f some at h =
     let P = NoFirst names start in
-    absurd (tree_never names start _ tree rest f (always_then P (token i) _ (λ _ i0. always_then P (name_read i0) _ (λ _ i1. always_then P (type_parameters_if_any i1) _ (λ _ i2. always_then P (expect (Mark_ mark.Assign) i2) _ (λ _ i3.
-    always_then P (type_read i3) _ (λ _ i4. always_then P (expect (Mark_ mark.Semicolon) i4) _ (λ _ i5. refl))))))) some h)
+    absurd (tree_never names start _ tree rest f (always_then P (alias_parts i) _ (λ _ i0. refl)) some h)
 declaration_row_back names before (Some row.Constant) i rest start tree f some at h =
     let P = NoFirst names start in
-    absurd (tree_never names start _ tree rest f (always_then P (token i) _ (λ _ i0. always_then P (type_read i0) _ (λ _ i1. always_then P (name_read i1) _ (λ _ i2. always_then P (default_value i2) _ (λ _ i3.
-    always_then P (expect (Mark_ mark.Semicolon) i3) _ (λ _ i4. refl)))))) some h)
+    absurd (tree_never names start _ tree rest f (always_then P (constant_parts i) _ (λ _ i0. refl)) some h)
 
 -- ---- a declaration
 

@@ -3,6 +3,8 @@ use Rattle.std.proofs.Common.{◌≡◌, ◌↔◌, ℕ, ◌+◌, List, [], ◌�
 use Rattle.hack_types.specs.declared.place.Place.{Place}
 use Rattle.hack_lexer.specs.declared.kind.Mark.TheVariants as mark
 use Rattle.hack_lexer.specs.declared.kind.Keyword.TheVariants as keyword
+use Rattle.hack_tree.specs.declared.written_type.WrittenType.{WrittenType}
+use Rattle.hack_tree.specs.declared.expression.Expr.{Expr}
 use Rattle.hack_tree.specs.declared.statement.Stmt.{Stmt}
 use Rattle.hack_tree.specs.declared.declaration.ClassModifier.{ClassModifier as ClassModifierTree}
 use Rattle.hack_tree.specs.declared.declaration.DeclaredName.{DeclaredName}
@@ -27,8 +29,13 @@ use Rattle.hack_parse_expr.proofs.Follows.{Leads, stepping, Follows, FollowsOne,
 use Rattle.hack_parse_expr.proofs.ListsFollow.{Shrinks, follows_keeps, many_follows, mapped_follows, refuse_shrinks}
 use Rattle.hack_parse_expr.proofs.Pieces.{Piece, Turn, turn, turn_follows, turn_shrinks, done, ◌and◌, a_token, the, a_parser, the_symbol, behind_token_follows, optional_seen, shrinks_first, shrinks_later, token_shortens}
 use Rattle.hack_parse_expr.proofs.Alone.{stands_law, fails_law}
+use Rattle.hack_parse_decl.specs.declared.declaration.ClassHead.{ClassHead}
+use Rattle.hack_parse_decl.specs.declared.declaration.HeadParts.{HeadParts}
+use Rattle.hack_parse_decl.specs.declared.declaration.EnumHead.{EnumHead}
+use Rattle.hack_parse_decl.specs.declared.declaration.AliasParts.{AliasParts}
+use Rattle.hack_parse_decl.specs.declared.declaration.ConstantParts.{ConstantParts}
 use Rattle.hack_parse_decl.specs.Declarations as parsers
-use Rattle.hack_parse_decl.proofs.SignaturesFollow.{a_type, a_class, a_body, a_name, attributes_follow, the_type_parameters, default_follows, value_follows, the_signature}
+use Rattle.hack_parse_decl.proofs.SignaturesFollow.{a_type, a_class, a_body, a_name, attributes_follow, the_type_parameters, default_follows, value_follows, the_signature, the_turn}
 use Rattle.hack_parse_decl.proofs.MembersFollow.{implements_follow, extends_all_follow, members_follow, interface_members_follow}
 
 -- ---- modifiers of a class
@@ -100,27 +107,103 @@ the_interface_members = a_parser (one (Mark_ mark.OpenBrace) ∷ many (rule Inte
 
 -- ---- cases of an enum
 
+-- `=`, an expression and `;`, in pieces
+abbrev case_value_turn : Turn deepest Expr
+case_value_turn = record {
+  pieces = a_parser (one (Mark_ mark.Assign) ∷ rule Expression ∷ []) (λ _ value. value) parsers.default_value value_follows and the (Mark_ mark.Semicolon) and done;
+  makes = λ value _. value;
+}
+
 -- a case, in pieces
 abbrev enum_case_turn : Turn deepest EnumCaseTree
 enum_case_turn = record {
-  pieces = a_name and a_parser (one (Mark_ mark.Assign) ∷ rule Expression ∷ []) (λ _ value. value) parsers.default_value value_follows and the (Mark_ mark.Semicolon) and done;
-  makes = λ name value _. record { name = name; value = value };
+  pieces = a_name and the_turn case_value_turn and done;
+  makes = λ name value. record { name = name; value = value };
 }
 
 -- a case
 enum_case_follows : FollowsOne deepest (rule EnumCase) parsers.enum_case
-unfolding parsers.enum_case
+unfolding parsers.enum_case parsers.value_closed
 enum_case_follows = rule_follows deepest EnumCase parsers.enum_case (λ i. row_by (turn enum_case_turn) (turn_follows enum_case_turn))
 
 -- it takes a token
 enum_case_shrinks : Shrinks deepest parsers.enum_case
-unfolding parsers.enum_case
+unfolding parsers.enum_case parsers.value_closed
 enum_case_shrinks = turn_shrinks enum_case_turn refl
 
 -- cases
 enum_cases_follow : FollowsOne deepest (many (rule EnumCase)) parsers.enum_cases
 unfolding parsers.enum_cases
 enum_cases_follow = many_follows deepest (rule EnumCase) (sees Name) parsers.enum_case (λ ts. refl) refl enum_case_follows enum_case_shrinks
+
+-- ---- heads of declarations, and those of one piece
+
+-- modifiers and `class`
+abbrev class_words_turn : Turn deepest (List ClassModifierTree)
+class_words_turn = record {
+  pieces = the_symbol (many (rule ClassModifier)) parsers.class_modifiers class_modifiers_follow and the (Keyword_ keyword.Class) and done;
+  makes = λ words _. words;
+}
+
+-- what stands between `class` and the members
+abbrev class_head_turn : Turn deepest ClassHead
+class_head_turn = record {
+  pieces = a_name and the_type_parameters and the_symbol (optional (rule Extends)) parsers.extends_if_any extends_follow and implemented and done;
+  makes = λ name types extends implements. record { name = name; type_parameters = types; extends = extends; implements = implements };
+}
+
+-- the head of an interface
+abbrev interface_head_turn : Turn deepest HeadParts
+interface_head_turn = record {
+  pieces = a_token and a_name and the_type_parameters and extended and done;
+  makes = λ _ name types above. record { name = name; type_parameters = types; above = above };
+}
+
+-- the head of a trait
+abbrev trait_head_turn : Turn deepest HeadParts
+trait_head_turn = record {
+  pieces = a_token and a_name and the_type_parameters and implemented and done;
+  makes = λ _ name types above. record { name = name; type_parameters = types; above = above };
+}
+
+-- the head of an enum
+abbrev enum_head_turn : Turn deepest EnumHead
+enum_head_turn = record {
+  pieces = a_token and a_name and the (Mark_ mark.Colon) and a_type and the_symbol (optional (rule EnumBound)) parsers.bound_if_any bound_follows and done;
+  makes = λ _ name _ base bound. record { name = name; base = base; bound = bound };
+}
+
+-- cases in braces
+abbrev enum_block_turn : Turn deepest (List EnumCaseTree)
+enum_block_turn = record {
+  pieces = the (Mark_ mark.OpenBrace) and the_symbol (many (rule EnumCase)) parsers.enum_cases enum_cases_follow and the (Mark_ mark.CloseBrace) and done;
+  makes = λ _ found _. found;
+}
+
+-- `=`, a type and `;`
+abbrev type_closed_turn : Turn deepest WrittenType
+type_closed_turn = record {
+  pieces = the (Mark_ mark.Assign) and a_type and the (Mark_ mark.Semicolon) and done;
+  makes = λ _ written _. written;
+}
+
+-- what an alias says
+abbrev alias_parts_turn : Turn deepest AliasParts
+alias_parts_turn = record {
+  pieces = a_token and a_name and the_type_parameters and the_turn type_closed_turn and done;
+  makes = λ _ name types written. record { name = name; type_parameters = types; written = written };
+}
+
+-- `=`, an expression and `;`, as a rule and a token
+abbrev value_closed_turn : Turn deepest Expr
+value_closed_turn = record { pieces = the_symbol (rule Default) parsers.default_value default_follows and the (Mark_ mark.Semicolon) and done; makes = λ value _. value }
+
+-- what a constant says
+abbrev constant_parts_turn : Turn deepest ConstantParts
+constant_parts_turn = record {
+  pieces = a_token and a_type and a_name and the_turn value_closed_turn and done;
+  makes = λ _ written name value. record { written = written; name = name; value = value };
+}
 
 -- ---- declarations behind their attributes
 
@@ -155,50 +238,50 @@ module _ (before : List AttributeTree) where
   -- a class
   abbrev class_turn : Turn deepest UnitTree
   class_turn = record {
-    pieces = the_symbol (many (rule ClassModifier)) parsers.class_modifiers class_modifiers_follow and the (Keyword_ keyword.Class) and a_name and the_type_parameters and the_symbol (optional (rule Extends)) parsers.extends_if_any extends_follow and implemented and the_members and done;
-    makes = λ words _ name types extends implements found. unit.Class before words name types extends implements found;
+    pieces = the_turn class_words_turn and the_turn class_head_turn and the_members and done;
+    makes = λ words head found. unit.Class before words head.name head.type_parameters head.extends head.implements found;
   }
 
   -- an interface
   abbrev interface_turn : Turn deepest UnitTree
   interface_turn = record {
-    pieces = a_token and a_name and the_type_parameters and extended and the_interface_members and done;
-    makes = λ _ name types extends found. unit.Interface before name types extends found;
+    pieces = the_turn interface_head_turn and the_interface_members and done;
+    makes = λ head found. unit.Interface before head.name head.type_parameters head.above found;
   }
 
   -- a trait
   abbrev trait_turn : Turn deepest UnitTree
   trait_turn = record {
-    pieces = a_token and a_name and the_type_parameters and implemented and the_members and done;
-    makes = λ _ name types implements found. unit.Trait before name types implements found;
+    pieces = the_turn trait_head_turn and the_members and done;
+    makes = λ head found. unit.Trait before head.name head.type_parameters head.above found;
   }
 
   -- an enum
   abbrev enum_turn : Turn deepest UnitTree
   enum_turn = record {
-    pieces = a_token and a_name and the (Mark_ mark.Colon) and a_type and the_symbol (optional (rule EnumBound)) parsers.bound_if_any bound_follows and the (Mark_ mark.OpenBrace) and the_symbol (many (rule EnumCase)) parsers.enum_cases enum_cases_follow and the (Mark_ mark.CloseBrace) and done;
-    makes = λ _ name _ base bound _ found _. unit.Enum before name base bound found;
+    pieces = the_turn enum_head_turn and the_turn enum_block_turn and done;
+    makes = λ head found. unit.Enum before head.name head.base head.bound found;
   }
 
   -- an alias of a type
   abbrev alias_turn : Turn deepest UnitTree
   alias_turn = record {
-    pieces = a_token and a_name and the_type_parameters and the (Mark_ mark.Assign) and a_type and the (Mark_ mark.Semicolon) and done;
-    makes = λ _ name types _ aliased _. unit.Alias before name types aliased;
+    pieces = the_turn alias_parts_turn and done;
+    makes = λ alias. unit.Alias before alias.name alias.type_parameters alias.written;
   }
 
   -- a constant
   abbrev constant_turn : Turn deepest UnitTree
   constant_turn = record {
-    pieces = a_token and a_type and a_name and the_symbol (rule Default) parsers.default_value default_follows and the (Mark_ mark.Semicolon) and done;
-    makes = λ _ written name value _. unit.Constant before written name value;
+    pieces = the_turn constant_parts_turn and done;
+    makes = λ constant. unit.Constant before constant.written constant.name constant.value;
   }
 
   -- a declaration by its row
   declaration_by_leads : (R : Type 0) (pending : List Symbol) (tree : UnitTree → Awaits pending R) (i : Input) →
       nesting pending + deepest ≡ 128 → (r : Option DeclarationRow) →
       Leads (by_row (rule Declared_) pending (λ of_attributes. tree (of_attributes before)) i (declaration_rows r)) pending tree (parsers.declaration_by before r i)
-  unfolding parsers.class parsers.interface parsers.trait_unit parsers.enum_unit parsers.alias parsers.constant
+  unfolding parsers.class parsers.class_words parsers.class_head parsers.interface parsers.trait_unit parsers.head parsers.enum_unit parsers.enum_head parsers.enum_block parsers.alias parsers.alias_parts parsers.type_closed parsers.constant parsers.constant_parts parsers.value_closed
   declaration_by_leads R pending tree i h None = reached
   declaration_by_leads R pending tree i h (Some row.Function) = function_follows.leads R pending tree i h
   declaration_by_leads R pending tree i h (Some row.Class) = (turn_follows class_turn).leads R pending tree i h
@@ -218,7 +301,7 @@ module _ (before : List AttributeTree) where
 
   -- each takes a token
   declaration_by_shrinks : (r : Option DeclarationRow) → Shrinks deepest (parsers.declaration_by before r)
-  unfolding parsers.class parsers.interface parsers.trait_unit parsers.enum_unit parsers.alias parsers.constant
+  unfolding parsers.class parsers.class_words parsers.class_head parsers.interface parsers.trait_unit parsers.head parsers.enum_unit parsers.enum_head parsers.enum_block parsers.alias parsers.alias_parts parsers.type_closed parsers.constant parsers.constant_parts parsers.value_closed
   declaration_by_shrinks None = refuse_shrinks deepest
   declaration_by_shrinks (Some row.Function) = function_shrinks
   declaration_by_shrinks (Some row.Class) = turn_shrinks class_turn refl

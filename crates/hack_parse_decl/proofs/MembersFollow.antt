@@ -25,8 +25,9 @@ use Rattle.hack_parse_expr.proofs.Runs.{reached}
 use Rattle.hack_parse_expr.proofs.Follows.{Leads, stepping, Follows, FollowsOne, RowFollows, first_follows, rule_follows, row_by, no_row, expect_follows, token_follows, place_follows}
 use Rattle.hack_parse_expr.proofs.ListsFollow.{Shrinks, Keeps, follows_keeps, many_follows, list1_follows, mapped_follows, refuse_shrinks, at_terminal_follows}
 use Rattle.hack_parse_expr.proofs.Pieces.{Turn, turn, turn_follows, turn_shrinks, done, ◌and◌, a_token, the, the_symbol, behind_token_follows, seen_follows, shrinks_first, shrinks_later, token_shortens}
+use Rattle.hack_parse_decl.specs.declared.member.Valued.{Valued}
 use Rattle.hack_parse_decl.specs.Declarations as parsers
-use Rattle.hack_parse_decl.proofs.SignaturesFollow.{a_type, a_class, a_body, a_name, a_variable, attributes_follow, the_default, the_signature}
+use Rattle.hack_parse_decl.proofs.SignaturesFollow.{a_type, a_class, a_body, a_name, a_variable, attributes_follow, default_closed_turn, the_signature, the_turn}
 
 -- ---- modifiers
 
@@ -87,19 +88,33 @@ method_body_follows = rule_follows deepest MethodBody parsers.method_body (λ i.
 
 -- ---- members behind their attributes and modifiers
 
+-- what a constant says behind its modifiers
+abbrev constant_valued_turn : Turn deepest Valued
+constant_valued_turn = record {
+  pieces = a_token and a_type and a_name and the_turn default_closed_turn and done;
+  makes = λ _ written name value. record { written = written; name = name; value = value };
+}
+
+-- and a property
+abbrev property_valued_turn : Turn deepest Valued
+property_valued_turn = record {
+  pieces = a_type and a_variable and the_turn default_closed_turn and done;
+  makes = λ written name value. record { written = written; name = name; value = value };
+}
+
 module _ (at : Place) (before : List AttributeTree) (words : List ModifierTree) where
   -- a constant
   abbrev constant_turn : Turn deepest MemberTree
   constant_turn = record {
-    pieces = a_token and a_type and a_name and the_default and the (Mark_ mark.Semicolon) and done;
-    makes = λ _ written name value _. member_tree.Constant at before words written name value;
+    pieces = the_turn constant_valued_turn and done;
+    makes = λ v. member_tree.Constant at before words v.written v.name v.value;
   }
 
   -- a property
   abbrev property_turn : Turn deepest MemberTree
   property_turn = record {
-    pieces = a_type and a_variable and the_default and the (Mark_ mark.Semicolon) and done;
-    makes = λ written name value _. member_tree.Property at before words written name value;
+    pieces = the_turn property_valued_turn and done;
+    makes = λ v. member_tree.Property at before words v.written v.name v.value;
   }
 
   -- a method behind its name
@@ -133,7 +148,7 @@ module _ (at : Place) (before : List AttributeTree) (words : List ModifierTree) 
   member_by_leads : (R : Type 0) (pending : List Symbol) (tree : MemberTree → Awaits pending R) (i : Input) →
       nesting pending + deepest ≡ 128 → (r : Option MemberRow) →
       Leads (by_row (rule MemberBody) pending (λ body. tree (body at before words)) i (member_rows r)) pending tree (parsers.member_by at before words r i)
-  unfolding parsers.constant_member parsers.property_member
+  unfolding parsers.constant_member parsers.constant_valued parsers.property_member parsers.property_valued parsers.value_closed_if_any
   member_by_leads R pending tree i h None = reached
   member_by_leads R pending tree i h (Some member_kind.Constant) = (turn_follows constant_turn).leads R pending tree i h
   member_by_leads R pending tree i h (Some member_kind.Method) = method_follows.leads R pending tree i h
@@ -149,7 +164,7 @@ module _ (at : Place) (before : List AttributeTree) (words : List ModifierTree) 
 
   -- each takes a token
   member_by_shrinks : (r : Option MemberRow) → Shrinks deepest (parsers.member_by at before words r)
-  unfolding parsers.constant_member parsers.property_member
+  unfolding parsers.constant_member parsers.constant_valued parsers.property_member parsers.property_valued parsers.value_closed_if_any
   member_by_shrinks None = refuse_shrinks deepest
   member_by_shrinks (Some member_kind.Constant) = turn_shrinks constant_turn refl
   member_by_shrinks (Some member_kind.Method) = method_shrinks
@@ -164,7 +179,7 @@ module _ (at : Place) (before : List AttributeTree) (words : List ModifierTree) 
   interface_by_leads : (R : Type 0) (pending : List Symbol) (tree : MemberTree → Awaits pending R) (i : Input) →
       nesting pending + deepest ≡ 128 → (r : Option MemberRow) →
       Leads (by_row (rule InterfaceBody) pending (λ body. tree (body at before words)) i (interface_rows r)) pending tree (parsers.interface_by at before words r i)
-  unfolding parsers.constant_member
+  unfolding parsers.constant_member parsers.constant_valued parsers.value_closed_if_any
   interface_by_leads R pending tree i h None = reached
   interface_by_leads R pending tree i h (Some member_kind.Constant) = (turn_follows constant_turn).leads R pending tree i h
   interface_by_leads R pending tree i h (Some member_kind.Method) = method_follows.leads R pending tree i h
@@ -180,7 +195,7 @@ module _ (at : Place) (before : List AttributeTree) (words : List ModifierTree) 
 
   -- each takes a token
   interface_by_shrinks : (r : Option MemberRow) → Shrinks deepest (parsers.interface_by at before words r)
-  unfolding parsers.constant_member
+  unfolding parsers.constant_member parsers.constant_valued parsers.value_closed_if_any
   interface_by_shrinks None = refuse_shrinks deepest
   interface_by_shrinks (Some member_kind.Constant) = turn_shrinks constant_turn refl
   interface_by_shrinks (Some member_kind.Method) = method_shrinks

@@ -56,6 +56,18 @@ a_name = the_made Name declared_name
 abbrev pub a_variable : Piece deepest
 a_variable = the_made Variable declared_name
 
+-- pieces in order and what is made of what they read, as one piece
+abbrev pub the_turn : {A : Type 0} → Turn deepest A → Piece deepest
+the_turn {A = A} t = record {
+  group = t.pieces.parts;
+  Made = A;
+  reading = t.pieces.through A t.makes;
+  parser = turn t;
+  follows = turn_follows t;
+  takes = t.pieces.takes;
+  shrinks = λ e. turn_shrinks t e;
+}
+
 -- ---- attributes
 
 -- an attribute, in pieces
@@ -270,6 +282,10 @@ default_if_any_follows = optional_follows deepest (rule Default) (sees (Mark_ ma
 -- `=` and an expression that may stand, as a piece
 abbrev pub the_default : Piece deepest
 the_default = the_symbol (optional (rule Default)) parsers.default_if_any default_if_any_follows
+
+-- the same with a `;` behind it
+abbrev pub default_closed_turn : Turn deepest (Option Expr)
+default_closed_turn = record { pieces = the_default and the (Mark_ mark.Semicolon) and done; makes = λ value _. value }
 
 -- a parameter, in pieces
 abbrev parameter_turn : Turn deepest ParameterTree

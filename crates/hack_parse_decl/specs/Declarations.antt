@@ -24,6 +24,12 @@ use Rattle.hack_tree.specs.declared.declaration.Member.TheVariants as member_tre
 use Rattle.hack_tree.specs.declared.declaration.EnumCase.{EnumCase}
 use Rattle.hack_tree.specs.declared.declaration.UnitTree.{UnitTree}
 use Rattle.hack_tree.specs.declared.declaration.UnitTree.TheVariants as unit
+use Rattle.hack_parse_decl.specs.declared.member.Valued.{Valued}
+use Rattle.hack_parse_decl.specs.declared.declaration.ClassHead.{ClassHead}
+use Rattle.hack_parse_decl.specs.declared.declaration.HeadParts.{HeadParts}
+use Rattle.hack_parse_decl.specs.declared.declaration.EnumHead.{EnumHead}
+use Rattle.hack_parse_decl.specs.declared.declaration.AliasParts.{AliasParts}
+use Rattle.hack_parse_decl.specs.declared.declaration.ConstantParts.{ConstantParts}
 use Rattle.hack_parse_expr.specs.declared.lexeme.Lexeme.{Lexeme}
 use Rattle.hack_parse_expr.specs.declared.rows.DeclarationRow.{DeclarationRow}
 use Rattle.hack_parse_expr.specs.declared.rows.DeclarationRow.TheVariants as row
@@ -31,7 +37,7 @@ use Rattle.hack_parse_expr.specs.declared.rows.MemberRow.{MemberRow}
 use Rattle.hack_parse_expr.specs.declared.rows.MemberRow.TheVariants as member_kind
 use Rattle.hack_parse_expr.specs.Decides.{is_there, declaration_row, member_row, visibility, modifier, class_modifier, variance, bound_kind}
 use Rattle.hack_parse_expr.specs.Kinds.{next_kind}
-use Rattle.hack_parse_expr.specs.Symbols.{Mark_, Keyword_, Name, Variable, Word, Declared}
+use Rattle.hack_parse_expr.specs.Symbols.{Terminal, Mark_, Keyword_, Name, Variable, Word, Declared}
 use Rattle.hack_parse_expr.specs.Rows.{sees, declared_name, or_empty, begins_attributes, begins_declaration, begins_type_parameter, begins_parameter, begins_member, begins_interface_member}
 use Rattle.hack_parse_expr.specs.Run.{deepest}
 use Rattle.hack_parse_expr.specs.Parsers.{Parser, ◌>>=◌, ◌>>◌, ◌<$>◌, pure, refuse, token, expect, eat, place, starting, finishing, optionally, many_of, list_of, list_from}
@@ -59,6 +65,12 @@ word_read = declared_name <$> expect Word
 
 abbrev pub variable_read : Parser DeclaredName
 variable_read = declared_name <$> expect Variable
+
+-- this, with a token behind it
+abbrev pub closed : {A : Type 0} → Terminal → A → Parser A
+closed terminal read = do
+  expect terminal
+  pure read
 
 -- ---- attributes
 
@@ -151,6 +163,19 @@ default_value = do
 unfoldable pub default_if_any : Parser (Option Expr)
 default_if_any = optionally (sees (Mark_ mark.Assign)) default_value
 
+-- the same, each with a `;` behind it
+unfoldable pub value_closed : Parser Expr
+value_closed = do
+  value ← default_value
+  expect (Mark_ mark.Semicolon)
+  pure value
+
+unfoldable pub value_closed_if_any : Parser (Option Expr)
+value_closed_if_any = do
+  value ← default_if_any
+  expect (Mark_ mark.Semicolon)
+  pure value
+
 unfoldable pub parameter : Parser Parameter
 parameter = do
   found ← attributes_if_any
@@ -200,15 +225,27 @@ method_body = λ i.
     if sees (Mark_ mark.OpenBrace) i.left then ((λ body. Some body) <$> body_read) i
     else (expect (Mark_ mark.Semicolon) >> pure None) i
 
+-- what stands behind the modifiers of a constant, and of a property
+unfoldable pub constant_valued : Parser Valued
+constant_valued = do
+  token
+  written ← type_read
+  name ← name_read
+  value ← value_closed_if_any
+  pure (record { written = written; name = name; value = value })
+
+unfoldable pub property_valued : Parser Valued
+property_valued = do
+  written ← type_read
+  name ← variable_read
+  value ← value_closed_if_any
+  pure (record { written = written; name = name; value = value })
+
 module _ (at : Place) (before : List Attribute) (words : List Modifier) where
   unfoldable pub constant_member : Parser Member
   constant_member = do
-    token
-    written ← type_read
-    name ← name_read
-    value ← default_if_any
-    expect (Mark_ mark.Semicolon)
-    pure (member_tree.Constant at before words written name value)
+    v ← constant_valued
+    pure (member_tree.Constant at before words v.written v.name v.value)
 
   unfoldable pub method_member : Parser Member
   method_member = do
@@ -220,11 +257,8 @@ module _ (at : Place) (before : List Attribute) (words : List Modifier) where
 
   unfoldable pub property_member : Parser Member
   property_member = do
-    written ← type_read
-    name ← variable_read
-    value ← default_if_any
-    expect (Mark_ mark.Semicolon)
-    pure (member_tree.Property at before words written name value)
+    v ← property_valued
+    pure (member_tree.Property at before words v.written v.name v.value)
 
   abbrev pub member_by : Option MemberRow → Parser Member
   member_by None = refuse
@@ -324,12 +358,80 @@ bound_if_any = optionally (sees (Keyword_ keyword.As)) (token >> type_read)
 unfoldable pub enum_case : Parser EnumCase
 enum_case = do
   name ← name_read
-  value ← default_value
-  expect (Mark_ mark.Semicolon)
+  value ← value_closed
   pure (record { name = name; value = value })
 
 unfoldable pub enum_cases : Parser (List EnumCase)
 enum_cases = many_of (sees Name) enum_case
+
+-- the modifiers of a class, with `class` behind them
+unfoldable pub class_words : Parser (List ClassModifier)
+class_words = do
+  words ← class_modifiers
+  expect (Keyword_ keyword.Class)
+  pure words
+
+-- what stands between `class` and the members
+unfoldable pub class_head : Parser ClassHead
+class_head = do
+  name ← name_read
+  types ← type_parameters_if_any
+  extends ← extends_if_any
+  implements ← types_behind keyword.Implements
+  pure (record { name = name; type_parameters = types; extends = extends; implements = implements })
+
+-- what stands before the members of an interface or a trait, whose types above it stand behind this keyword
+unfoldable pub head : Keyword → Parser HeadParts
+head k = do
+  token
+  name ← name_read
+  types ← type_parameters_if_any
+  above ← types_behind k
+  pure (record { name = name; type_parameters = types; above = above })
+
+-- what stands before the cases of an enum
+unfoldable pub enum_head : Parser EnumHead
+enum_head = do
+  token
+  name ← name_read
+  expect (Mark_ mark.Colon)
+  base ← type_read
+  bound ← bound_if_any
+  pure (record { name = name; base = base; bound = bound })
+
+-- cases in braces
+unfoldable pub enum_block : Parser (List EnumCase)
+enum_block = do
+  expect (Mark_ mark.OpenBrace)
+  found ← enum_cases
+  expect (Mark_ mark.CloseBrace)
+  pure found
+
+-- `=`, a type and `;`
+unfoldable pub type_closed : Parser WrittenType
+type_closed = do
+  expect (Mark_ mark.Assign)
+  written ← type_read
+  expect (Mark_ mark.Semicolon)
+  pure written
+
+-- what an alias says
+unfoldable pub alias_parts : Parser AliasParts
+alias_parts = do
+  token
+  name ← name_read
+  types ← type_parameters_if_any
+  written ← type_closed
+  pure (record { name = name; type_parameters = types; written = written })
+
+-- what a constant says
+unfoldable pub constant_parts : Parser ConstantParts
+constant_parts = do
+  token
+  written ← type_read
+  name ← name_read
+  value ← value_closed
+  pure (record { written = written; name = name; value = value })
 
 module _ (before : List Attribute) where
   unfoldable pub function : Parser UnitTree
@@ -342,63 +444,38 @@ module _ (before : List Attribute) where
 
   unfoldable pub class : Parser UnitTree
   class = do
-    words ← class_modifiers
-    expect (Keyword_ keyword.Class)
-    name ← name_read
-    types ← type_parameters_if_any
-    extends ← extends_if_any
-    implements ← types_behind keyword.Implements
+    words ← class_words
+    h ← class_head
     found ← members
-    pure (unit.Class before words name types extends implements found)
+    pure (unit.Class before words h.name h.type_parameters h.extends h.implements found)
 
   unfoldable pub interface : Parser UnitTree
   interface = do
-    token
-    name ← name_read
-    types ← type_parameters_if_any
-    extends ← types_behind keyword.Extends
+    h ← head keyword.Extends
     found ← interface_members
-    pure (unit.Interface before name types extends found)
+    pure (unit.Interface before h.name h.type_parameters h.above found)
 
   unfoldable pub trait_unit : Parser UnitTree
   trait_unit = do
-    token
-    name ← name_read
-    types ← type_parameters_if_any
-    implements ← types_behind keyword.Implements
+    h ← head keyword.Implements
     found ← members
-    pure (unit.Trait before name types implements found)
+    pure (unit.Trait before h.name h.type_parameters h.above found)
 
   unfoldable pub enum_unit : Parser UnitTree
   enum_unit = do
-    token
-    name ← name_read
-    expect (Mark_ mark.Colon)
-    base ← type_read
-    bound ← bound_if_any
-    expect (Mark_ mark.OpenBrace)
-    found ← enum_cases
-    expect (Mark_ mark.CloseBrace)
-    pure (unit.Enum before name base bound found)
+    h ← enum_head
+    found ← enum_block
+    pure (unit.Enum before h.name h.base h.bound found)
 
   unfoldable pub alias : Parser UnitTree
   alias = do
-    token
-    name ← name_read
-    types ← type_parameters_if_any
-    expect (Mark_ mark.Assign)
-    aliased ← type_read
-    expect (Mark_ mark.Semicolon)
-    pure (unit.Alias before name types aliased)
+    a ← alias_parts
+    pure (unit.Alias before a.name a.type_parameters a.written)
 
   unfoldable pub constant : Parser UnitTree
   constant = do
-    token
-    written ← type_read
-    name ← name_read
-    value ← default_value
-    expect (Mark_ mark.Semicolon)
-    pure (unit.Constant before written name value)
+    c ← constant_parts
+    pure (unit.Constant before c.written c.name c.value)
 
   abbrev pub declaration_by : Option DeclarationRow → Parser UnitTree
   declaration_by None = refuse

@@ -5,13 +5,52 @@ ghost use Rattle.hack_parse_expr.specs.Parsers.{Reads};
 
 use crate::member::{body_read, interface_members, members, types_behind};
 use crate::signature::{
-    class_read, default_value, name_read, signature, type_parameters_if_any, type_read,
+    class_read, closed, name_read, signature, type_parameters_if_any, type_read, value_closed,
 };
 use hack_lexer::{Keyword, Mark};
 use hack_parse_expr::{Cursor, DeclarationRow, ParseStop, class_modifier, declaration_row};
-use hack_tree::{Attribute, ClassModifier, ClassType, EnumCase, UnitTree, WrittenType};
+use hack_tree::{
+    Attribute, ClassModifier, ClassType, DeclaredName, EnumCase, Expr, TypeParameter, UnitTree,
+    WrittenType,
+};
 use sqlite_items::Items;
 use std::alloc::Global;
+
+// What a class says between `class` and its members.
+struct ClassHead {
+    name: DeclaredName,
+    type_parameters: Items<TypeParameter>,
+    extends: Option<ClassType>,
+    implements: Items<ClassType>,
+}
+
+// What an interface or a trait says before its members: its name, its type parameters and the types above it.
+struct HeadParts {
+    name: DeclaredName,
+    type_parameters: Items<TypeParameter>,
+    above: Items<ClassType>,
+}
+
+// What an enum says before its cases.
+struct EnumHead {
+    name: DeclaredName,
+    base: WrittenType,
+    bound: Option<WrittenType>,
+}
+
+// What an alias says.
+struct AliasParts {
+    name: DeclaredName,
+    type_parameters: Items<TypeParameter>,
+    written: WrittenType,
+}
+
+// What a constant says.
+struct ConstantParts {
+    written: WrittenType,
+    name: DeclaredName,
+    value: Expr,
+}
 
 fn begins_class_modifier(cursor: &Cursor<'_>) -> bool
     ensures { result ≡ spec.begins_class_modifier cursor.now.left }
@@ -76,8 +115,7 @@ fn enum_case(alloc: Global, cursor: &mut Cursor<'_>) -> Result<EnumCase, ParseSt
     ensures { Reads (spec.enum_case cursor.old) result cursor.new }
 {
     let name = name_read(cursor)?;
-    let value = default_value(alloc, cursor)?;
-    cursor.expect(Mark::Semicolon)?;
+    let value = value_closed(alloc, cursor)?;
     Ok(EnumCase { name, value })
 }
 
@@ -114,6 +152,32 @@ fn function(
     })
 }
 
+// The modifiers of a class, with `class` behind them.
+#[tactic(auto, unfolding(crate::specs::Declarations::class_words))]
+fn class_words(alloc: Global, cursor: &mut Cursor<'_>) -> Result<Items<ClassModifier>, ParseStop>
+    ensures { Reads (spec.class_words cursor.old) result cursor.new }
+{
+    let words = class_modifiers(alloc, cursor)?;
+    cursor.expect_keyword(Keyword::Class)?;
+    Ok(words)
+}
+
+#[tactic(auto, unfolding(crate::specs::Declarations::class_head))]
+fn class_head(alloc: Global, cursor: &mut Cursor<'_>) -> Result<ClassHead, ParseStop>
+    ensures { Reads (spec.class_head cursor.old) result cursor.new }
+{
+    let name = name_read(cursor)?;
+    let type_parameters = type_parameters_if_any(alloc, cursor)?;
+    let extends = extends_if_any(alloc, cursor)?;
+    let implements = types_behind(alloc, cursor, Keyword::Implements)?;
+    Ok(ClassHead {
+        name,
+        type_parameters,
+        extends,
+        implements,
+    })
+}
+
 #[tactic(auto, unfolding(crate::specs::Declarations::class))]
 fn class(
     alloc: Global,
@@ -122,12 +186,13 @@ fn class(
 ) -> Result<UnitTree, ParseStop>
     ensures { Reads (spec.class attributes cursor.old) result cursor.new }
 {
-    let modifiers = class_modifiers(alloc, cursor)?;
-    cursor.expect_keyword(Keyword::Class)?;
-    let name = name_read(cursor)?;
-    let type_parameters = type_parameters_if_any(alloc, cursor)?;
-    let extends = extends_if_any(alloc, cursor)?;
-    let implements = types_behind(alloc, cursor, Keyword::Implements)?;
+    let modifiers = class_words(alloc, cursor)?;
+    let ClassHead {
+        name,
+        type_parameters,
+        extends,
+        implements,
+    } = class_head(alloc, cursor)?;
     let members = members(alloc, cursor)?;
     Ok(UnitTree::Class {
         attributes,
@@ -140,6 +205,22 @@ fn class(
     })
 }
 
+// The head of an interface or a trait, whose types above it stand behind this keyword.
+#[tactic(auto, unfolding(crate::specs::Declarations::head))]
+fn head(alloc: Global, cursor: &mut Cursor<'_>, keyword: Keyword) -> Result<HeadParts, ParseStop>
+    ensures { Reads (spec.head keyword cursor.old) result cursor.new }
+{
+    cursor.token()?;
+    let name = name_read(cursor)?;
+    let type_parameters = type_parameters_if_any(alloc, cursor)?;
+    let above = types_behind(alloc, cursor, keyword)?;
+    Ok(HeadParts {
+        name,
+        type_parameters,
+        above,
+    })
+}
+
 #[tactic(auto, unfolding(crate::specs::Declarations::interface))]
 fn interface(
     alloc: Global,
@@ -148,10 +229,11 @@ fn interface(
 ) -> Result<UnitTree, ParseStop>
     ensures { Reads (spec.interface attributes cursor.old) result cursor.new }
 {
-    cursor.token()?;
-    let name = name_read(cursor)?;
-    let type_parameters = type_parameters_if_any(alloc, cursor)?;
-    let extends = types_behind(alloc, cursor, Keyword::Extends)?;
+    let HeadParts {
+        name,
+        type_parameters,
+        above: extends,
+    } = head(alloc, cursor, Keyword::Extends)?;
     let members = interface_members(alloc, cursor)?;
     Ok(UnitTree::Interface {
         attributes,
@@ -170,10 +252,11 @@ fn trait_unit(
 ) -> Result<UnitTree, ParseStop>
     ensures { Reads (spec.trait_unit attributes cursor.old) result cursor.new }
 {
-    cursor.token()?;
-    let name = name_read(cursor)?;
-    let type_parameters = type_parameters_if_any(alloc, cursor)?;
-    let implements = types_behind(alloc, cursor, Keyword::Implements)?;
+    let HeadParts {
+        name,
+        type_parameters,
+        above: implements,
+    } = head(alloc, cursor, Keyword::Implements)?;
     let members = members(alloc, cursor)?;
     Ok(UnitTree::Trait {
         attributes,
@@ -184,6 +267,28 @@ fn trait_unit(
     })
 }
 
+#[tactic(auto, unfolding(crate::specs::Declarations::enum_head))]
+fn enum_head(alloc: Global, cursor: &mut Cursor<'_>) -> Result<EnumHead, ParseStop>
+    ensures { Reads (spec.enum_head cursor.old) result cursor.new }
+{
+    cursor.token()?;
+    let name = name_read(cursor)?;
+    cursor.expect(Mark::Colon)?;
+    let base = type_read(alloc, cursor)?;
+    let bound = bound_if_any(alloc, cursor)?;
+    Ok(EnumHead { name, base, bound })
+}
+
+// Cases in braces.
+#[tactic(auto, unfolding(crate::specs::Declarations::enum_block))]
+fn enum_block(alloc: Global, cursor: &mut Cursor<'_>) -> Result<Items<EnumCase>, ParseStop>
+    ensures { Reads (spec.enum_block cursor.old) result cursor.new }
+{
+    cursor.expect(Mark::OpenBrace)?;
+    let found = enum_cases(alloc, cursor)?;
+    closed(cursor, Mark::CloseBrace, found)
+}
+
 #[tactic(auto, unfolding(crate::specs::Declarations::enum_unit))]
 fn enum_unit(
     alloc: Global,
@@ -192,20 +297,39 @@ fn enum_unit(
 ) -> Result<UnitTree, ParseStop>
     ensures { Reads (spec.enum_unit attributes cursor.old) result cursor.new }
 {
-    cursor.token()?;
-    let name = name_read(cursor)?;
-    cursor.expect(Mark::Colon)?;
-    let base = type_read(alloc, cursor)?;
-    let bound = bound_if_any(alloc, cursor)?;
-    cursor.expect(Mark::OpenBrace)?;
-    let cases = enum_cases(alloc, cursor)?;
-    cursor.expect(Mark::CloseBrace)?;
+    let EnumHead { name, base, bound } = enum_head(alloc, cursor)?;
+    let cases = enum_block(alloc, cursor)?;
     Ok(UnitTree::Enum {
         attributes,
         name,
         base,
         bound,
         cases,
+    })
+}
+
+// `=`, a type and `;`.
+#[tactic(auto, unfolding(crate::specs::Declarations::type_closed))]
+fn type_closed(alloc: Global, cursor: &mut Cursor<'_>) -> Result<WrittenType, ParseStop>
+    ensures { Reads (spec.type_closed cursor.old) result cursor.new }
+{
+    cursor.expect(Mark::Assign)?;
+    let written = type_read(alloc, cursor)?;
+    closed(cursor, Mark::Semicolon, written)
+}
+
+#[tactic(auto, unfolding(crate::specs::Declarations::alias_parts))]
+fn alias_parts(alloc: Global, cursor: &mut Cursor<'_>) -> Result<AliasParts, ParseStop>
+    ensures { Reads (spec.alias_parts cursor.old) result cursor.new }
+{
+    cursor.token()?;
+    let name = name_read(cursor)?;
+    let type_parameters = type_parameters_if_any(alloc, cursor)?;
+    let written = type_closed(alloc, cursor)?;
+    Ok(AliasParts {
+        name,
+        type_parameters,
+        written,
     })
 }
 
@@ -217,17 +341,31 @@ fn alias(
 ) -> Result<UnitTree, ParseStop>
     ensures { Reads (spec.alias attributes cursor.old) result cursor.new }
 {
-    cursor.token()?;
-    let name = name_read(cursor)?;
-    let type_parameters = type_parameters_if_any(alloc, cursor)?;
-    cursor.expect(Mark::Assign)?;
-    let aliased = type_read(alloc, cursor)?;
-    cursor.expect(Mark::Semicolon)?;
+    let AliasParts {
+        name,
+        type_parameters,
+        written,
+    } = alias_parts(alloc, cursor)?;
     Ok(UnitTree::Alias {
         attributes,
         name,
         type_parameters,
-        aliased,
+        aliased: written,
+    })
+}
+
+#[tactic(auto, unfolding(crate::specs::Declarations::constant_parts))]
+fn constant_parts(alloc: Global, cursor: &mut Cursor<'_>) -> Result<ConstantParts, ParseStop>
+    ensures { Reads (spec.constant_parts cursor.old) result cursor.new }
+{
+    cursor.token()?;
+    let written = type_read(alloc, cursor)?;
+    let name = name_read(cursor)?;
+    let value = value_closed(alloc, cursor)?;
+    Ok(ConstantParts {
+        written,
+        name,
+        value,
     })
 }
 
@@ -239,11 +377,11 @@ fn constant(
 ) -> Result<UnitTree, ParseStop>
     ensures { Reads (spec.constant attributes cursor.old) result cursor.new }
 {
-    cursor.token()?;
-    let written = type_read(alloc, cursor)?;
-    let name = name_read(cursor)?;
-    let value = default_value(alloc, cursor)?;
-    cursor.expect(Mark::Semicolon)?;
+    let ConstantParts {
+        written,
+        name,
+        value,
+    } = constant_parts(alloc, cursor)?;
     Ok(UnitTree::Constant {
         attributes,
         written,

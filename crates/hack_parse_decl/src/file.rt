@@ -108,7 +108,8 @@ fn unit(alloc: Global, cursor: &mut Cursor<'_>, bytes: &[u8]) -> Result<Unit, Pa
     let attributes = attributes_if_any(alloc, cursor)?;
     let tree = declared(alloc, cursor, attributes)?;
     let text = between(bytes, first.first, cursor.behind());
-    Ok(unit_of(alloc, first.at, text, tree)?)
+    let (tree, text) = with_copy(alloc, tree, text)?;
+    Ok(unit_of(first.at, text, tree))
 }
 
 fn begins_declaration(cursor: &Cursor<'_>) -> bool
@@ -126,20 +127,28 @@ fn between(bytes: &[u8], from: u32, to: u32) -> &[u8]
     if from < to { &bytes[from..to] } else { &[] }
 }
 
-fn unit_of(alloc: Global, start: Place, text: &[u8], tree: UnitTree) -> Result<Unit, NoMemory>
-    ensures { IfOk result (λ unit. unit ≡ files.unit_at start text.now tree) }
+// What was read, with a copy of the bytes that it was read from.
+fn with_copy<T: Drop>(alloc: Global, read: T, bytes: &[u8]) -> Result<(T, Bytes), NoMemory>
+    ensures { IfOk result (λ pair. (pair.0 ≡ read) × (pair.1 ≡ bytes.now)) }
+{
+    let copy = Bytes::copy_of(alloc, bytes)?;
+    Ok((read, copy))
+}
+
+fn unit_of(start: Place, text: Bytes, tree: UnitTree) -> Unit
+    ensures { result ≡ files.unit_at start text tree }
 {
     let name = name_of(&tree);
-    Ok(Unit {
+    Unit {
         symbol: SymbolId {
             kind: kind_of(&tree),
             name: name.name,
         },
         start,
         name_at: absolute(start, name.at),
-        text: Bytes::copy_of(alloc, text)?,
+        text,
         tree,
-    })
+    }
 }
 
 // The name that a declaration declares.

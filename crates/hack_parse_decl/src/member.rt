@@ -5,16 +5,23 @@ ghost use Rattle.hack_parse_expr.specs.Parsers.{Reads};
 ghost use Rattle.hack_parse_expr.specs.Rows.{begins_interface_member, begins_member};
 
 use crate::signature::{
-    DEEPEST, attributes_if_any, begins_attributes, class_read, default_if_any, name_read,
-    signature, type_read, variable_read, word_read,
+    DEEPEST, attributes_if_any, begins_attributes, class_read, closed, name_read, signature,
+    type_read, value_closed_if_any, variable_read, word_read,
 };
 use hack_lexer::{Keyword, Mark};
 use hack_parse_expr::{Cursor, MemberRow, ParseStop, member_row, modifier};
 use hack_parse_stmt::block;
-use hack_tree::{Attribute, ClassType, Member, Modifier, Stmt};
+use hack_tree::{Attribute, ClassType, DeclaredName, Expr, Member, Modifier, Stmt, WrittenType};
 use hack_types::Place;
 use sqlite_items::Items;
 use std::alloc::Global;
+
+// What a constant or a property says behind its modifiers.
+struct Valued {
+    written: WrittenType,
+    name: DeclaredName,
+    value: Option<Expr>,
+}
 
 fn begins_modifier(cursor: &Cursor<'_>) -> bool
     ensures { result ≡ spec.begins_modifier cursor.now.left }
@@ -83,6 +90,37 @@ fn method_body(alloc: Global, cursor: &mut Cursor<'_>) -> Result<Option<Items<St
     Ok(None)
 }
 
+// What stands behind the modifiers of a constant.
+#[tactic(auto, unfolding(crate::specs::Declarations::constant_valued))]
+fn constant_valued(alloc: Global, cursor: &mut Cursor<'_>) -> Result<Valued, ParseStop>
+    ensures { Reads (spec.constant_valued cursor.old) result cursor.new }
+{
+    cursor.token()?;
+    let written = type_read(alloc, cursor)?;
+    let name = name_read(cursor)?;
+    let value = value_closed_if_any(alloc, cursor)?;
+    Ok(Valued {
+        written,
+        name,
+        value,
+    })
+}
+
+// The same of a property.
+#[tactic(auto, unfolding(crate::specs::Declarations::property_valued))]
+fn property_valued(alloc: Global, cursor: &mut Cursor<'_>) -> Result<Valued, ParseStop>
+    ensures { Reads (spec.property_valued cursor.old) result cursor.new }
+{
+    let written = type_read(alloc, cursor)?;
+    let name = variable_read(cursor)?;
+    let value = value_closed_if_any(alloc, cursor)?;
+    Ok(Valued {
+        written,
+        name,
+        value,
+    })
+}
+
 #[tactic(auto, unfolding(crate::specs::Declarations::constant_member))]
 fn constant_member(
     alloc: Global,
@@ -93,11 +131,11 @@ fn constant_member(
 ) -> Result<Member, ParseStop>
     ensures { Reads (spec.constant_member at attributes modifiers cursor.old) result cursor.new }
 {
-    cursor.token()?;
-    let written = type_read(alloc, cursor)?;
-    let name = name_read(cursor)?;
-    let value = default_if_any(alloc, cursor)?;
-    cursor.expect(Mark::Semicolon)?;
+    let Valued {
+        written,
+        name,
+        value,
+    } = constant_valued(alloc, cursor)?;
     Ok(Member::Constant {
         at,
         attributes,
@@ -141,10 +179,11 @@ fn property_member(
 ) -> Result<Member, ParseStop>
     ensures { Reads (spec.property_member at attributes modifiers cursor.old) result cursor.new }
 {
-    let written = type_read(alloc, cursor)?;
-    let name = variable_read(cursor)?;
-    let value = default_if_any(alloc, cursor)?;
-    cursor.expect(Mark::Semicolon)?;
+    let Valued {
+        written,
+        name,
+        value,
+    } = property_valued(alloc, cursor)?;
     Ok(Member::Property {
         at,
         attributes,
@@ -305,8 +344,7 @@ pub(crate) fn members(alloc: Global, cursor: &mut Cursor<'_>) -> Result<Items<Me
 {
     cursor.expect(Mark::OpenBrace)?;
     let found = member_list(alloc, cursor)?;
-    cursor.expect(Mark::CloseBrace)?;
-    Ok(found)
+    closed(cursor, Mark::CloseBrace, found)
 }
 
 /// The members of an interface, in braces.
@@ -319,6 +357,5 @@ pub(crate) fn interface_members(
 {
     cursor.expect(Mark::OpenBrace)?;
     let found = interface_member_list(alloc, cursor)?;
-    cursor.expect(Mark::CloseBrace)?;
-    Ok(found)
+    closed(cursor, Mark::CloseBrace, found)
 }

@@ -2,6 +2,7 @@
 ghost use Rattle.std.specs.Prelude.{◌≡◌};
 ghost use Rattle.hack_parse_decl.specs.Declarations as spec;
 ghost use Rattle.hack_parse_expr.specs.Parsers.{Reads};
+ghost use Rattle.hack_parse_expr.specs.Symbols.{Mark_};
 ghost use Rattle.hack_parse_expr.specs.Rows.{begins_attributes, begins_parameter, begins_type_parameter, or_empty};
 
 use hack_lexer::Mark;
@@ -81,6 +82,14 @@ fn or_empty<T: Drop>(alloc: Global, items: Option<Items<T>>) -> Items<T>
     }
 }
 
+/// What was read, with this mark behind it.
+pub(crate) fn closed<T: Drop>(cursor: &mut Cursor<'_>, mark: Mark, read: T) -> Result<T, ParseStop>
+    ensures { Reads (spec.closed (Mark_ mark) read cursor.old) result cursor.new }
+{
+    cursor.expect(mark)?;
+    Ok(read)
+}
+
 /// Whether attributes come next.
 pub(crate) fn begins_attributes(cursor: &Cursor<'_>) -> bool
     ensures { result ≡ begins_attributes cursor.now.left }
@@ -128,8 +137,7 @@ fn attributes(alloc: Global, cursor: &mut Cursor<'_>) -> Result<Items<Attribute>
     cursor.token()?;
     let found = attribute_list(alloc, cursor)?;
     cursor.expect(Mark::Greater)?;
-    cursor.expect(Mark::Greater)?;
-    Ok(found)
+    closed(cursor, Mark::Greater, found)
 }
 
 /// The attributes that come next, none where none do.
@@ -243,8 +251,7 @@ fn type_parameters(
 {
     cursor.token()?;
     let found = type_parameter_list(alloc, cursor)?;
-    cursor.expect(Mark::Greater)?;
-    Ok(found)
+    closed(cursor, Mark::Greater, found)
 }
 
 /// The type parameters that come next, none where none do.
@@ -275,7 +282,7 @@ fn visibility_if_any(cursor: &mut Cursor<'_>) -> Result<Option<Visibility>, Pars
 
 /// `=` and an expression.
 #[tactic(auto, unfolding(crate::specs::Declarations::default_value))]
-pub(crate) fn default_value(alloc: Global, cursor: &mut Cursor<'_>) -> Result<Expr, ParseStop>
+fn default_value(alloc: Global, cursor: &mut Cursor<'_>) -> Result<Expr, ParseStop>
     ensures { Reads (spec.default_value cursor.old) result cursor.new }
 {
     cursor.expect(Mark::Assign)?;
@@ -284,10 +291,7 @@ pub(crate) fn default_value(alloc: Global, cursor: &mut Cursor<'_>) -> Result<Ex
 
 /// `=` and an expression, where a `=` comes next.
 #[tactic(auto, unfolding(crate::specs::Declarations::default_if_any))]
-pub(crate) fn default_if_any(
-    alloc: Global,
-    cursor: &mut Cursor<'_>,
-) -> Result<Option<Expr>, ParseStop>
+fn default_if_any(alloc: Global, cursor: &mut Cursor<'_>) -> Result<Option<Expr>, ParseStop>
     ensures { Reads (spec.default_if_any cursor.old) result cursor.new }
 {
     if cursor.sees(Mark::Assign) {
@@ -295,6 +299,27 @@ pub(crate) fn default_if_any(
     } else {
         Ok(None)
     }
+}
+
+/// `=`, an expression and `;`.
+#[tactic(auto, unfolding(crate::specs::Declarations::value_closed))]
+pub(crate) fn value_closed(alloc: Global, cursor: &mut Cursor<'_>) -> Result<Expr, ParseStop>
+    ensures { Reads (spec.value_closed cursor.old) result cursor.new }
+{
+    let value = default_value(alloc, cursor)?;
+    closed(cursor, Mark::Semicolon, value)
+}
+
+/// `;`, with `=` and an expression before it where a `=` comes next.
+#[tactic(auto, unfolding(crate::specs::Declarations::value_closed_if_any))]
+pub(crate) fn value_closed_if_any(
+    alloc: Global,
+    cursor: &mut Cursor<'_>,
+) -> Result<Option<Expr>, ParseStop>
+    ensures { Reads (spec.value_closed_if_any cursor.old) result cursor.new }
+{
+    let value = default_if_any(alloc, cursor)?;
+    closed(cursor, Mark::Semicolon, value)
 }
 
 #[tactic(auto, unfolding(hack_parse_expr::specs::Types::begins_type))]
@@ -345,8 +370,7 @@ fn parameters(alloc: Global, cursor: &mut Cursor<'_>) -> Result<Items<Parameter>
 {
     cursor.expect(Mark::OpenParen)?;
     let found = parameter_list(alloc, cursor)?;
-    cursor.expect(Mark::CloseParen)?;
-    Ok(found)
+    closed(cursor, Mark::CloseParen, found)
 }
 
 #[tactic(auto, unfolding(crate::specs::Declarations::result_if_any))]
