@@ -1,9 +1,7 @@
 pub mod FieldOrder
 pub mod NameLemmas
 pub mod NamesInTypes
-pub mod NodeLemmas
 pub mod PutLemmas
 pub mod RisingLaws
-pub mod SameLaws
 pub mod TextLemmas
 pub mod UnionLemmas

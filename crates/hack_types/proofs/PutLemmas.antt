@@ -12,7 +12,7 @@ use Rattle.hack_types.specs.declared.hack_type.HackType.TheOpen.{HackType-F}
 use Rattle.hack_types.specs.declared.hack_type.HackType.TheFolds.{fold-roll-HackType, fold_out-HackType}
 use Rattle.hack_types.specs.declared.hack_type.HackType.TheVariants as v
 use Rattle.hack_types.specs.formers.fields.Fields.{on_type}
-use Rattle.hack_types.proofs.NodeLemmas.{nodes_of_class, nodes_of_shape}
+use Rattle.hack_types.specs.NodeLaws.{nodes_of_class, nodes_of_shape}
 
 -- no type is without a node
 count_positive : (layer : HackType-F ℕ) → 1 ≤ node_count layer

@@ -8,7 +8,7 @@ use Rattle.std.specs.List.{list_any}
 use Rattle.hack_types.specs.SameType.{same_type}
 use Rattle.hack_types.specs.OptionOf.{option_of}
 use Rattle.hack_types.specs.UnionOf.{has_null, joined_within, once, parts_of, union_of, with_part}
-use Rattle.hack_types.proofs.SameLaws.{equal_is_same, differ_not_same}
+use Rattle.hack_types.specs.SameLaws.{equal_is_same, differ_not_same}
 use Rattle.hack_types.specs.declared.hack_type.HackType.{HackType}
 
 abbrev pub read : Bor HackType → HackType

@@ -1,10 +1,12 @@
 pub mod MembersRise
 pub mod Names
 pub mod NamesInside
+pub mod NodeLaws
 pub mod OptionOf
 pub mod Places
 pub mod Report
 pub mod Rising
+pub mod SameLaws
 pub mod SameType
 pub mod Substituted
 pub mod TypeNodes

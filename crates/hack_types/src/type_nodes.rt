@@ -15,7 +15,7 @@ impl HackType {
 
     // What is left of a number of nodes once those of the type are taken from it, where it has as many.
     #[cycle(nodes)]
-    #[tactic(auto, using(crate::proofs::NodeLemmas::nodes_of_shape, crate::proofs::NodeLemmas::nodes_of_class, crate::proofs::NodeLemmas::nodes_of_union))]
+    #[tactic(auto, using(crate::specs::NodeLaws::nodes_of_shape, crate::specs::NodeLaws::nodes_of_class, crate::specs::NodeLaws::nodes_of_union))]
     pub(crate) fn take_nodes(&self, left: u32) -> Option<u32>
         ensures some { IfSome result (λ rest. rest + nodes self.now ≡ left) }
         ensures none { IfNone result (left < nodes self.now) }
@@ -33,7 +33,7 @@ impl HackType {
 }
 
 #[cycle(nodes)]
-#[tactic(auto, using(crate::proofs::NodeLemmas::more_of_all))]
+#[tactic(auto, using(crate::specs::NodeLaws::more_of_all))]
 fn take_all(types: &Items<HackType>, left: u32) -> Option<u32>
     ensures some { IfSome result (λ rest. rest + sum_by nodes types.now ≡ left) }
     ensures none { IfNone result (left < sum_by nodes types.now) }
@@ -46,7 +46,7 @@ fn take_all(types: &Items<HackType>, left: u32) -> Option<u32>
 }
 
 #[cycle(nodes)]
-#[tactic(auto, using(crate::proofs::NodeLemmas::more_of_fields))]
+#[tactic(auto, using(crate::specs::NodeLaws::more_of_fields))]
 fn take_fields(fields: &Fields<HackType>, left: u32) -> Option<u32>
     ensures some { IfSome result (λ rest. rest + sum_by (λ field. nodes field.ty) fields.now ≡ left) }
     ensures none { IfNone result (left < sum_by (λ field. nodes field.ty) fields.now) }

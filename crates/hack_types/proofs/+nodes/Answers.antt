@@ -1,6 +1,6 @@
 use Rattle.std.proofs.Common.{rules, ap, ◌∙◌}
 use Rattle.hack_types.specs.TypeNodes.{nodes}
-use Rattle.hack_types.proofs.NodeLemmas.{nodes_of_shape}
+use Rattle.hack_types.specs.NodeLaws.{nodes_of_shape}
 use Rattle.hack_types.proofs.+nodes.Goals as goal
 
 pub hack_type::HackType::take_nodes-returns-in-Shape-clause-some :
