@@ -1,11 +1,9 @@
 -- The paths of a class over good parents, and what is read off one of them (docs/language.md, Folding). A path is the list of the
 -- parents on it, as they are written; the class that it begins with isn't on it.
-use Rattle.std.specs.Prelude.{ℕ, zero, suc, ◌||◌, not, Bool, true, false, Option, Some, None, List, [], ◌∷◌, map, nat_le, if◌then◌else◌}
+use Rattle.std.specs.Prelude.{ℕ, zero, suc, ◌||◌, not, Bool, true, false, Option, Some, None, List, [], ◌∷◌, map, if◌then◌else◌}
 use Rattle.std.specs.List.{flat_map}
-use Rattle.hack_types.specs.Substituted.{most_nodes, substitute}
-use Rattle.hack_types.specs.TypeNodes.{nodes}
+use Rattle.hack_types.specs.Substituted.{limited, substitute}
 use Rattle.hack_types.specs.declared.hack_type.HackType.{HackType}
-use Rattle.hack_types.specs.declared.hack_type.HackType.TheVariants.{Any}
 use Rattle.hack_types.specs.declared.shallow.ClassSig.{ClassSig}
 use Rattle.hack_types.specs.declared.shallow.Member.{Member}
 use Rattle.hack_types.specs.declared.shallow.MemberKind.{MemberKind}
@@ -44,7 +42,7 @@ end_of name (parent ∷ path) = end_of parent.name path
 
 -- the type with the arguments put in, and `_` where it would have more than 256 nodes
 unfoldable pub put_in : List HackType → HackType → HackType
-put_in arguments type = if nat_le (nodes (substitute arguments type)) most_nodes then substitute arguments type else Any
+put_in arguments type = limited (substitute arguments type)
 
 -- a type of the class at the path's end as the class at its beginning has it: the arguments are put in from the end on
 abbrev pub along : List Ancestor → HackType → HackType

@@ -1,5 +1,5 @@
 -- The type that a written type is (docs/language.md, Types and their texts).
-use Rattle.std.specs.Prelude.{ℕ, Bool, List, [], ◌∷◌, map, if◌then◌else◌, nat_le}
+use Rattle.std.specs.Prelude.{ℕ, Bool, List, [], ◌∷◌, map}
 use Rattle.std.specs.Ordering.{nat_cmp}
 use Rattle.std.specs.BTreeMap.{insert_entry}
 use Rattle.hack_tree.specs.declared.written_type.Primitive.{Primitive}
@@ -15,7 +15,7 @@ use Rattle.hack_types.specs.declared.fields.Field.{Field}
 use Rattle.hack_types.specs.declared.hack_type.HackType.{HackType}
 use Rattle.hack_types.specs.declared.hack_type.HackType.TheVariants as type
 use Rattle.hack_types.specs.OptionOf.{option_of}
-use Rattle.hack_types.specs.TypeNodes.{nodes}
+use Rattle.hack_types.specs.Substituted.{limited}
 use Rattle.hack_shallow.specs.Scope.{Scope, named}
 
 abbrev pub primitive_type : Primitive → HackType
@@ -74,10 +74,6 @@ resolved_class scope = fold-ClassType HackType HackType (Field HackType) type_by
 
 abbrev pub resolved_field : Scope → FieldType → Field HackType
 resolved_field scope = fold-FieldType HackType HackType (Field HackType) type_by (class_by scope) field_by
-
--- a type of more than 256 nodes is `_`
-abbrev pub limited : HackType → HackType
-limited t = if nat_le (nodes t) 256 then t else type.Any
 
 abbrev pub type_of : Scope → WrittenType → HackType
 type_of scope written = limited (resolved scope written)

@@ -6,13 +6,10 @@ ghost use Rattle.hack_shallow.specs.Scopes.{scope_of};
 
 use crate::scope::Parameters;
 use hack_tree::{ClassType, Container, FieldType, Primitive, WrittenType};
-use hack_types::{Field, Fields, HackType, NameId, NoMemory, into_option};
+use hack_types::{Field, Fields, HackType, NameId, NoMemory, into_option, limited};
 use sqlite_items::{Boxed, Items};
 use std::alloc::Global;
 use std::collections::BTreeMap;
-
-// A type of more nodes is `_` (docs/language.md, Types and their texts).
-const MAX_NODES: u32 = 256;
 
 /// The type parameters around a written type.
 #[derive(Clone, Copy)]
@@ -126,17 +123,6 @@ fn in_order(
         fields.push(Field { key, optional, ty })?;
     }
     Ok(Fields::from_vec(fields))
-}
-
-// The type, or `_` where it has too many nodes.
-fn limited(ty: HackType) -> HackType
-    ensures { result ≡ spec.limited ty }
-{
-    if ty.is_within(MAX_NODES) {
-        ty
-    } else {
-        HackType::Any
-    }
 }
 
 fn primitive_type(primitive: Primitive) -> HackType

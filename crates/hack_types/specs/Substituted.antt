@@ -1,5 +1,5 @@
 -- Types with types in the place of class parameters (docs/language.md, Types and their texts).
-use Rattle.std.specs.Prelude.{◌≡◌, ◌<◌, ◌≤◌, ℕ, Result, Ok, Err, List, slice_index_or}
+use Rattle.std.specs.Prelude.{◌≡◌, ◌<◌, ◌≤◌, ℕ, if◌then◌else◌, nat_le, Result, Ok, Err, List, slice_index_or}
 use Rattle.hack_types.specs.OptionOf.{option_of}
 use Rattle.hack_types.specs.TypeNodes.{nodes}
 use Rattle.hack_types.specs.UnionOf.{union_of}
@@ -24,6 +24,10 @@ substitute arguments = fold-HackType HackType (substitute_by arguments)
 -- how many nodes a type may have
 abbrev pub most_nodes : ℕ
 most_nodes = 256
+
+-- a type of more nodes is `_`
+abbrev pub limited : HackType → HackType
+limited type = if nat_le (nodes type) most_nodes then type else Any
 
 -- the answer is this type, and `TooBig` exactly where it has too many nodes
 abbrev pub IsUnlessTooBig : Result HackType SubstStop → HackType → Type 0

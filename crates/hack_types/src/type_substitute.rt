@@ -1,6 +1,6 @@
 // Types with types in the place of class parameters.
 ghost use Rattle.std.specs.Prelude.{◌≡◌, ◌+◌, ◌<◌, ◌≤◌, IfOk, IfSome, IfNone, map, slice_index_or, sum_by};
-ghost use Rattle.hack_types.specs.Substituted.{IsUnlessTooBig, substitute};
+ghost use Rattle.hack_types.specs.Substituted.{IsUnlessTooBig, limited, substitute};
 ghost use Rattle.hack_types.specs.TypeNodes.{nodes};
 ghost use Rattle.hack_types.specs.declared.hack_type.HackType.TheVariants.{Any};
 ghost use Rattle.hack_types.specs.formers.fields.Fields.{on_type};
@@ -48,6 +48,17 @@ pub fn substitute(
         return Err(SubstStop::TooBig);
     }
     Ok(substituted)
+}
+
+/// The type itself, or `_` where it has more than 256 nodes (docs/language.md, Types and their texts).
+pub fn limited(ty: HackType) -> HackType
+    ensures { result ≡ limited ty }
+{
+    if ty.is_within(MOST_NODES) {
+        ty
+    } else {
+        HackType::Any
+    }
 }
 
 impl HackType {
