@@ -1,0 +1,15 @@
+pub mod Decided
+pub mod Decides
+pub mod FitLaws
+pub mod Gates
+pub mod Headings
+pub mod Heights
+pub mod Lists
+pub mod Looks
+pub mod Loops
+pub mod NamesOf
+pub mod NamesPut
+pub mod NamesScope
+pub mod Params
+pub mod Tells
+pub mod Trees

@@ -1,0 +1,9 @@
+pub mod Derives
+pub mod Inside
+pub mod IsBelow
+pub mod Knowing
+pub mod Parts
+pub mod Rules
+pub mod Scopes
+pub mod Sub
+pub mod Tops

@@ -1,0 +1,23 @@
+//! Subtyping (docs/language.md, Subtyping).
+#![tactic(auto)]
+
+mod bounds;
+mod class_types;
+mod containers;
+mod known;
+mod laws;
+mod level;
+mod lookups;
+mod named;
+mod options;
+mod parts;
+mod plain;
+mod scope;
+mod shapes;
+mod sub;
+mod top;
+mod way;
+
+pub use laws::{one_relation, order};
+pub use scope::Scope;
+pub use sub::is_sub;
