@@ -13,7 +13,7 @@ use std::collections::BTreeMap;
 use std::test::Fail;
 
 // The signatures of declarations.
-fn declared(alloc: Global, units: &[Unit]) -> Result<BTreeMap<SymbolId, Shallow>, NoMemory> {
+pub(crate) fn declared(alloc: Global, units: &[Unit]) -> Result<BTreeMap<SymbolId, Shallow>, NoMemory> {
     let mut shallows = BTreeMap::new(alloc);
     for unit in units {
         let before = shallows.insert(unit.symbol, shallow_of(alloc, unit)?)?;
@@ -48,7 +48,7 @@ fn in_order(
 }
 
 // What a lookup or a fold answers here, where no edges are kept.
-fn kept<T: Drop>(found: Result<T, DeclStop>) -> Result<T, NoMemory> {
+pub(crate) fn kept<T: Drop>(found: Result<T, DeclStop>) -> Result<T, NoMemory> {
     match found {
         Ok(found) => Ok(found),
         Err(_) => Err(NoMemory),
@@ -56,7 +56,7 @@ fn kept<T: Drop>(found: Result<T, DeclStop>) -> Result<T, NoMemory> {
 }
 
 // What each declaration folds to.
-fn fold_all(alloc: Global, shallows: &BTreeMap<SymbolId, Shallow>) -> Result<MapDecls, NoMemory> {
+pub(crate) fn fold_all(alloc: Global, shallows: &BTreeMap<SymbolId, Shallow>) -> Result<MapDecls, NoMemory> {
     let order = in_order(alloc, shallows)?;
     let mut decls = MapDecls::new(alloc);
     for ((_, symbol), cyclic) in &order {

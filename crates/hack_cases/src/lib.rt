@@ -7,6 +7,8 @@
 #[cfg(test)]
 mod base;
 #[cfg(test)]
+mod below;
+#[cfg(test)]
 mod diagnostics;
 #[cfg(test)]
 mod first;

@@ -1,5 +1,6 @@
 // The rows, one file for each crate.
 
+pub(crate) mod below;
 pub(crate) mod diag;
 pub(crate) mod first;
 pub(crate) mod folding;

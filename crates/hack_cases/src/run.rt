@@ -2,7 +2,7 @@
 
 use crate::plain::{plain, shown};
 use crate::{
-    base, diagnostics, first, folding, lexer, machine, naming, parse, rows, scripts, serve,
+    base, below, diagnostics, first, folding, lexer, machine, naming, parse, rows, scripts, serve,
     shallow, types,
 };
 use hack_types::NoMemory;
@@ -29,6 +29,7 @@ pub(crate) enum Table {
     Signatures,
     Folded,
     Lines,
+    Below,
     Units,
     Machine,
     Served,
@@ -56,6 +57,7 @@ impl Table {
             Table::Signatures => rows::shallow::SIGNATURES,
             Table::Folded => rows::folding::FOLDED,
             Table::Lines => rows::folding::LINES,
+            Table::Below => rows::below::BELOW,
             Table::Units => rows::first::UNITS,
             Table::Machine => rows::machine::RUNS,
             Table::Served => rows::serve::SERVED,
@@ -82,6 +84,7 @@ impl Table {
             Table::Signatures => shallow::signatures(alloc, text),
             Table::Folded => folding::last_folded(alloc, text),
             Table::Lines => folding::last_line(alloc, text),
+            Table::Below => below::judged(alloc, text),
             Table::Units => first::units(alloc, text),
             Table::Machine => machine::ended(alloc, text),
             Table::Served => serve::served(alloc, text),
