@@ -6,7 +6,7 @@ use Rattle.hack_decls.specs.AskLaws.{failed, said, then, unasked}
 use Rattle.hack_decls.specs.Asks.{Nothing}
 use Rattle.hack_decls.specs.DeclState.{DeclState, Map, Symbols}
 use Rattle.hack_decls.specs.declared.stop.DeclStop.{DeclStop}
-use Rattle.hack_sub.specs.Inside.{SoFar, Tells}
+use Rattle.hack_sub.specs.inside.Calls.{SoFar, Tells}
 
 module _ {Base Held : Type 0} where
   pub begun : (state : DeclState Base Held) (whole : Map → Bool) {Names : Symbols → Type 0} → SoFar state state whole whole Names

@@ -4,7 +4,7 @@ use Rattle.hack_decls.specs.AskLaws.{failed, said, then, unasked}
 use Rattle.hack_decls.specs.Asks.{Asks}
 use Rattle.hack_decls.specs.DeclState.{DeclState, Map, Symbols}
 use Rattle.hack_decls.specs.declared.stop.DeclStop.{DeclStop}
-use Rattle.hack_sub.specs.Inside.{Tells}
+use Rattle.hack_sub.specs.inside.Calls.{Tells}
 use Rattle.hack_sub.specs.IsBelow.{some_and}
 
 module _ {Base Held : Type 0} {old new : DeclState Base Held} where

@@ -1,9 +1,10 @@
 pub mod Derives
-pub mod Inside
 pub mod IsBelow
 pub mod Knowing
+pub mod Named
 pub mod Parts
 pub mod Rules
 pub mod Scopes
 pub mod Sub
 pub mod Tops
+pub mod inside

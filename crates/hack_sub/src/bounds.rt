@@ -1,6 +1,7 @@
 // The rule on type parameters and `this`.
 ghost use Rattle.std.specs.Prelude.{◌≡◌, ◌<◌, IfOk, length, option_copied, slice_get};
-ghost use Rattle.hack_sub.specs.Inside.{OneIn, PairIn, Relates, Tells};
+ghost use Rattle.hack_sub.specs.Named.{PairIn};
+ghost use Rattle.hack_sub.specs.inside.Calls.{OneIn, Relates, Tells};
 ghost use Rattle.hack_sub.specs.IsBelow.{class_type_small, from_param, from_this, into_param, is_below, some_and};
 ghost use Rattle.hack_sub.specs.Scopes.{class_params_by, own_params, param_of};
 

@@ -1,6 +1,7 @@
 // The rule on named types.
 ghost use Rattle.std.specs.Prelude.{◌≡◌, ◌↔◌, IsTrue, length};
-ghost use Rattle.hack_sub.specs.Inside.{ArgumentsIn, FitIn, NamesFitIn, PairIn, Relates, Tells};
+ghost use Rattle.hack_sub.specs.Named.{PairIn};
+ghost use Rattle.hack_sub.specs.inside.Calls.{ArgumentsIn, FitIn, NamesFitIn, Relates, Tells};
 ghost use Rattle.hack_sub.specs.IsBelow.{ancestor_given, class_names, class_types, fit, is_below, some_and, varies};
 ghost use Rattle.hack_sub.specs.Knowing.{parameters};
 

@@ -1,5 +1,6 @@
 // Rules on containers.
-ghost use Rattle.hack_sub.specs.Inside.{PairIn, Relates, Tells};
+ghost use Rattle.hack_sub.specs.Named.{PairIn};
+ghost use Rattle.hack_sub.specs.inside.Calls.{Relates, Tells};
 ghost use Rattle.hack_sub.specs.IsBelow.{dicts, into_keyed, is_below, keysets, some_and, vectors};
 ghost use Rattle.hack_sub.specs.Parts.{as_keyed};
 

@@ -1,7 +1,7 @@
 // What a named type is.
 
 /// What a type is by what is declared under its name.
-#[derive(Clone, Copy, Debug, PartialEq, Eq)]
+#[derive(Clone, Copy)]
 pub(crate) enum Known {
     /// It has no name.
     Unnamed,

@@ -1,6 +1,7 @@
 // What a rule needs besides the two types.
 ghost use Rattle.std.specs.Prelude.{◌&&◌};
-ghost use Rattle.hack_sub.specs.Inside.{BothIn, PairIn, Relates, Tells};
+ghost use Rattle.hack_sub.specs.Named.{PairIn};
+ghost use Rattle.hack_sub.specs.inside.Calls.{BothIn, Relates, Tells};
 ghost use Rattle.hack_sub.specs.IsBelow.{is_below};
 
 use crate::Scope;

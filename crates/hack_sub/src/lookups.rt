@@ -3,7 +3,7 @@ ghost use Rattle.std.specs.Prelude.{◌≡◌, ◌==◌, if◌then◌else◌, So
 ghost use Rattle.hack_types.specs.Substituted.{substitute};
 ghost use Rattle.hack_decls.specs.Asks.{Asks, Nothing};
 ghost use Rattle.hack_decls.specs.Names.{TypeIn, class_symbol};
-ghost use Rattle.hack_sub.specs.Inside.{base_in, body_in, given_in, known_heading, params_in};
+ghost use Rattle.hack_sub.specs.inside.Calls.{base_in, body_in, given_in, known_heading, params_in};
 ghost use Rattle.hack_sub.specs.IsBelow.{all_small, ancestor_given, bound_of, bounded_base, expanded_small, small_only};
 ghost use Rattle.hack_sub.specs.Knowing.{enum_by, expanded_by, is_trait, known, known_by, known_class, parameters};
 ghost use Rattle.hack_sub.specs.declared.known.Known.TheVariants.{Alias, Bad, Enum};
@@ -59,7 +59,9 @@ fn known_by<D: Decls>(
 fn known_heading(heading: HeadingAnswer, count: usize) -> Known
     ensures { result ≡ known_heading count heading }
 {
-    known_of(&heading, count)
+    let known = known_of(&heading, count);
+    drop(heading);
+    known
 }
 
 fn known_of(heading: &HeadingAnswer, count: usize) -> Known

@@ -1,7 +1,8 @@
 // Rules on aliases and enums.
 ghost use Rattle.std.specs.Prelude.{◌||◌};
 ghost use Rattle.hack_types.specs.declared.hack_type.HackType.TheVariants.{Arraykey};
-ghost use Rattle.hack_sub.specs.Inside.{PairIn, Relates, Tells};
+ghost use Rattle.hack_sub.specs.Named.{PairIn};
+ghost use Rattle.hack_sub.specs.inside.Calls.{Relates, Tells};
 ghost use Rattle.hack_sub.specs.IsBelow.{bounded_base, expanded_small, from_alias, from_enum, into_alias, is_below, some_and};
 
 use crate::Scope;

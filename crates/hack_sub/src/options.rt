@@ -1,6 +1,7 @@
 // Rules on options and unions.
 ghost use Rattle.std.specs.List.{list_all, list_any};
-ghost use Rattle.hack_sub.specs.Inside.{ManyIn, PairIn, Relates, Tells};
+ghost use Rattle.hack_sub.specs.Named.{PairIn};
+ghost use Rattle.hack_sub.specs.inside.Calls.{ManyIn, Relates, Tells};
 ghost use Rattle.hack_sub.specs.IsBelow.{from_option, from_union, into_option, into_union, is_below};
 
 use crate::Scope;

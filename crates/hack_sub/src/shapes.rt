@@ -1,7 +1,8 @@
 // The rule on shapes.
 ghost use Rattle.std.specs.Prelude.{◌≡◌, ◌&&◌, ◌||◌, is_some, not, option_copied};
 ghost use Rattle.std.specs.List.{list_all};
-ghost use Rattle.hack_sub.specs.Inside.{FieldIn, FieldsIn, PairIn, Relates, Tells};
+ghost use Rattle.hack_sub.specs.Named.{PairIn};
+ghost use Rattle.hack_sub.specs.inside.Calls.{FieldIn, FieldsIn, Relates, Tells};
 ghost use Rattle.hack_sub.specs.IsBelow.{covers, is_below, meets_field, shape};
 ghost use Rattle.hack_sub.specs.Rules.{field_at};
 

@@ -1,7 +1,7 @@
 // What a type is, where nobody has to know the types inside it.
 
 /// The former of a type.
-#[derive(Clone, Copy, Debug, PartialEq, Eq)]
+#[derive(Clone, Copy)]
 pub(crate) enum Top {
     /// `_`
     Any,

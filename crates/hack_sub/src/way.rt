@@ -1,7 +1,7 @@
 // The ways in which a rule with premises may apply.
 
 /// A rule of subtyping that has premises, or a half of one (docs/language.md, Subtyping).
-#[derive(Clone, Copy, Debug, PartialEq, Eq)]
+#[derive(Clone, Copy)]
 pub(crate) enum Way {
     /// The upper type is an option.
     IntoOption,

@@ -1,5 +1,5 @@
 use Rattle.std.proofs.Common.{drop}
-use Rattle.hack_sub.specs.Inside.{ArgumentsIn, SoFar}
+use Rattle.hack_sub.specs.inside.Calls.{ArgumentsIn, SoFar}
 use Rattle.hack_sub.specs.IsBelow.{fit, is_below}
 use Rattle.hack_sub.proofs.class_types.fit_each.Given as goal
 

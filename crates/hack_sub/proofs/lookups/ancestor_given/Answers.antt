@@ -8,7 +8,7 @@ use Rattle.hack_decls.specs.declared.answers.AncestorAnswer.{AncestorAnswer}
 use Rattle.hack_decls.specs.Names.{TypeIn, class_symbol}
 use Rattle.hack_decls.specs.AskLaws.{looked_names, said}
 use Rattle.hack_sub.proofs.Headings.{given_law, given_named}
-use Rattle.hack_sub.specs.Inside.{given_in}
+use Rattle.hack_sub.specs.inside.Calls.{given_in}
 use Rattle.hack_sub.specs.IsBelow.{all_small}
 use Rattle.hack_sub.specs.Knowing.{ancestor_by}
 use Rattle.hack_sub.proofs.lookups.ancestor_given.Goals as goal

@@ -7,7 +7,7 @@ use Rattle.hack_decls.specs.declared.answers.HeadingAnswer.{HeadingAnswer}
 use Rattle.hack_decls.specs.Names.{TypeIn, class_symbol}
 use Rattle.hack_decls.specs.AskLaws.{looked_names, said}
 use Rattle.hack_sub.proofs.Headings.{body_law, body_named}
-use Rattle.hack_sub.specs.Inside.{body_in}
+use Rattle.hack_sub.specs.inside.Calls.{body_in}
 use Rattle.hack_sub.specs.IsBelow.{small_only}
 use Rattle.hack_sub.specs.Knowing.{expanded_by}
 use Rattle.hack_sub.proofs.lookups.expanded_by.Goals as goal

@@ -3,7 +3,7 @@ use Rattle.hack_types.specs.declared.ids.SymbolId.{SymbolId}
 use Rattle.hack_decls.specs.AskLaws.{looked, said}
 use Rattle.hack_decls.specs.Names.{class_symbol}
 use Rattle.hack_sub.proofs.Headings.{known_law}
-use Rattle.hack_sub.specs.Inside.{known_heading}
+use Rattle.hack_sub.specs.inside.Calls.{known_heading}
 use Rattle.hack_sub.specs.Knowing.{known_by}
 use Rattle.hack_sub.proofs.lookups.known_by.Goals as goal
 

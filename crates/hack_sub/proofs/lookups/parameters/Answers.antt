@@ -3,7 +3,7 @@ use Rattle.hack_types.specs.declared.ids.SymbolId.{SymbolId}
 use Rattle.hack_decls.specs.AskLaws.{looked, said}
 use Rattle.hack_decls.specs.Names.{class_symbol}
 use Rattle.hack_sub.proofs.Headings.{params_law}
-use Rattle.hack_sub.specs.Inside.{params_in}
+use Rattle.hack_sub.specs.inside.Calls.{params_in}
 use Rattle.hack_sub.specs.Knowing.{parameters_by}
 use Rattle.hack_sub.proofs.lookups.parameters.Goals as goal
 

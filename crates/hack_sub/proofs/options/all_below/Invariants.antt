@@ -1,6 +1,6 @@
 use Rattle.std.proofs.Common.{drop}
 use Rattle.std.specs.List.{list_all}
-use Rattle.hack_sub.specs.Inside.{ManyIn, SoFar}
+use Rattle.hack_sub.specs.inside.Calls.{ManyIn, SoFar}
 use Rattle.hack_sub.specs.IsBelow.{is_below}
 use Rattle.hack_sub.proofs.options.all_below.Given as goal
 

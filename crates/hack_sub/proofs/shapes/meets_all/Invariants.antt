@@ -1,6 +1,6 @@
 use Rattle.std.proofs.Common.{drop}
 use Rattle.std.specs.List.{list_all}
-use Rattle.hack_sub.specs.Inside.{FieldsIn, SoFar}
+use Rattle.hack_sub.specs.inside.Calls.{FieldsIn, SoFar}
 use Rattle.hack_sub.specs.IsBelow.{is_below, meets_field}
 use Rattle.hack_sub.proofs.shapes.meets_all.Given as goal
 

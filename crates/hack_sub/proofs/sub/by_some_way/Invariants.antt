@@ -1,6 +1,7 @@
 use Rattle.std.proofs.Common.{drop}
 use Rattle.std.specs.List.{list_any}
-use Rattle.hack_sub.specs.Inside.{PairIn, SoFar}
+use Rattle.hack_sub.specs.Named.{PairIn}
+use Rattle.hack_sub.specs.inside.Calls.{SoFar}
 use Rattle.hack_sub.specs.IsBelow.{all_ways, goes, is_below, some_way}
 use Rattle.hack_sub.proofs.sub.by_some_way.Given as goal
 

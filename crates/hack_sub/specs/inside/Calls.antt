@@ -1,4 +1,4 @@
--- What the calls of the crate say to each other. No public clause names these.
+-- What the calls of the crate say to each other.
 use Rattle.std.specs.Prelude.{◌≡◌, ◌==◌, ℕ, Bool, Result, Ok, Option, None, List, [], All, length, if◌then◌else◌, IsTrue, map}
 use denote.Ref.{Bor, MutBor}
 use Rattle.hack_types.specs.declared.fields.Field.{Field}
@@ -15,8 +15,7 @@ use Rattle.hack_decls.specs.declared.answers.HeadingAnswer.TheVariants as headin
 use Rattle.hack_decls.specs.declared.stop.DeclStop.{DeclStop}
 use Rattle.hack_sub.specs.IsBelow.{all_small, bound_of, is_below, small_only}
 use Rattle.hack_sub.specs.Knowing.{known_class}
-use Rattle.hack_sub.specs.Parts.{keyed_container}
-use Rattle.hack_sub.specs.Scopes.{ScopeIn}
+use Rattle.hack_sub.specs.Named.{Around, PairIn}
 use Rattle.hack_sub.specs.declared.known.Known.{Known}
 use Rattle.hack_sub.specs.declared.known.Known.TheVariants as sorts
 use Rattle.hack_sub.specs.declared.scope.Scope.{Scope}
@@ -29,16 +28,7 @@ Tells old result new test Names = Asks old result new (λ map answer. answer ≡
 abbrev pub SoFar : {Base Held : Type 0} → DeclState Base Held → DeclState Base Held → (Map → Bool) → (Map → Bool) → (Symbols → Type 0) → Type 0
 SoFar {Base} {Held} old new whole rest Names = Asks old (Ok tt) new (λ map (done : Unit {0}). whole map ≡ rest map) Names Nothing
 
--- what a scope names, and `KeyedContainer`, is among these symbols
-pub record Around (symbols : Symbols) (scope : Scope) : Type 0 where
-  pub scoped : ScopeIn symbols scope
-  pub keyed : IsTrue (symbols (class_symbol keyed_container))
-
--- and what these types name
-pub record PairIn (symbols : Symbols) (scope : Scope) (S T : HackType) : Type 0 where
-  pub around : Around symbols scope
-  pub lower : TypeIn symbols S
-  pub upper : TypeIn symbols T
+-- ---- what is named by the scope and by these types
 
 pub record OneIn (symbols : Symbols) (scope : Scope) (T : HackType) : Type 0 where
   pub around : Around symbols scope
@@ -71,7 +61,7 @@ pub record ArgumentsIn (symbols : Symbols) (scope : Scope) (Us Vs : List HackTyp
   pub lowers : All (TypeIn symbols) Us
   pub uppers : All (TypeIn symbols) Vs
 
--- and these names
+-- and by these names
 pub record FitIn (symbols : Symbols) (scope : Scope) (d : ℕ) (Us Vs : List HackType) : Type 0 where
   pub name : IsTrue (symbols (class_symbol d))
   pub arguments : ArgumentsIn symbols scope Us Vs
