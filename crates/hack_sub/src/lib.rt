@@ -19,5 +19,9 @@ mod top;
 mod way;
 
 pub use laws::{one_relation, order};
+pub use parts::{
+    arguments_of, as_keyed, dict_parts, is_open, keyset_item, name_of, option_inside, shape_fields,
+    union_members, vector_item,
+};
 pub use scope::Scope;
 pub use sub::is_sub;

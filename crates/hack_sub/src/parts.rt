@@ -35,8 +35,8 @@ pub(crate) fn top_of(ty: &HackType) -> Top
     }
 }
 
-/// The type inside `?`.
-pub(crate) fn option_inside(ty: &HackType) -> Option<&HackType>
+/// The type inside `?`; nothing of any other type (docs/language.md, Types and their texts).
+pub fn option_inside(ty: &HackType) -> Option<&HackType>
     ensures { option_copied result ≡ option_inside ty.now }
 {
     match ty {
@@ -45,8 +45,8 @@ pub(crate) fn option_inside(ty: &HackType) -> Option<&HackType>
     }
 }
 
-/// The members of a union.
-pub(crate) fn union_members(ty: &HackType) -> Option<&[HackType]>
+/// The members of a union; nothing of any other type (docs/language.md, Types and their texts).
+pub fn union_members(ty: &HackType) -> Option<&[HackType]>
     ensures { option_copied result ≡ union_members ty.now }
 {
     match ty {
@@ -55,8 +55,8 @@ pub(crate) fn union_members(ty: &HackType) -> Option<&[HackType]>
     }
 }
 
-/// The type of what a vec holds.
-pub(crate) fn vector_item(ty: &HackType) -> Option<&HackType>
+/// The type of what a vec holds; nothing of any other type (docs/language.md, Types and their texts).
+pub fn vector_item(ty: &HackType) -> Option<&HackType>
     ensures { option_copied result ≡ vector_item ty.now }
 {
     match ty {
@@ -65,8 +65,8 @@ pub(crate) fn vector_item(ty: &HackType) -> Option<&HackType>
     }
 }
 
-/// The type of what a keyset holds.
-pub(crate) fn keyset_item(ty: &HackType) -> Option<&HackType>
+/// The type of what a keyset holds; nothing of any other type (docs/language.md, Types and their texts).
+pub fn keyset_item(ty: &HackType) -> Option<&HackType>
     ensures { option_copied result ≡ keyset_item ty.now }
 {
     match ty {
@@ -75,8 +75,8 @@ pub(crate) fn keyset_item(ty: &HackType) -> Option<&HackType>
     }
 }
 
-/// The types of the keys and of the values of a dict.
-pub(crate) fn dict_parts(ty: &HackType) -> Option<(&HackType, &HackType)>
+/// The types of the keys and of the values of a dict; nothing of any other type (docs/language.md, Types and their texts).
+pub fn dict_parts(ty: &HackType) -> Option<(&HackType, &HackType)>
     ensures { option_map (λ parts. (parts.0.now, parts.1.now)) result ≡ dict_parts ty.now }
 {
     match ty {
@@ -85,8 +85,8 @@ pub(crate) fn dict_parts(ty: &HackType) -> Option<(&HackType, &HackType)>
     }
 }
 
-/// The fields of a shape.
-pub(crate) fn shape_fields(ty: &HackType) -> Option<&[Field<HackType>]>
+/// The fields of a shape; nothing of any other type (docs/language.md, Types and their texts).
+pub fn shape_fields(ty: &HackType) -> Option<&[Field<HackType>]>
     ensures { option_copied result ≡ shape_fields ty.now }
 {
     match ty {
@@ -95,8 +95,8 @@ pub(crate) fn shape_fields(ty: &HackType) -> Option<&[Field<HackType>]>
     }
 }
 
-/// Whether the type is a shape with `...`.
-pub(crate) fn is_open(ty: &HackType) -> bool
+/// Whether the type is a shape with `...` (docs/language.md, Types and their texts).
+pub fn is_open(ty: &HackType) -> bool
     ensures { result ≡ is_open ty.now }
 {
     match ty {
@@ -105,8 +105,8 @@ pub(crate) fn is_open(ty: &HackType) -> bool
     }
 }
 
-/// The name of a class, an interface, a trait, an enum or an alias.
-pub(crate) fn name_of(ty: &HackType) -> Option<NameId>
+/// The name of a class, an interface, a trait, an enum or an alias; nothing of any other type (docs/language.md, Types and their texts).
+pub fn name_of(ty: &HackType) -> Option<NameId>
     ensures { result ≡ name_of ty.now }
 {
     match ty {
@@ -115,8 +115,8 @@ pub(crate) fn name_of(ty: &HackType) -> Option<NameId>
     }
 }
 
-/// The type arguments behind such a name.
-pub(crate) fn arguments_of(ty: &HackType) -> &[HackType]
+/// The type arguments behind such a name; none of any other type (docs/language.md, Types and their texts).
+pub fn arguments_of(ty: &HackType) -> &[HackType]
     ensures { result.now ≡ arguments_of ty.now }
 {
     match ty {
@@ -125,8 +125,8 @@ pub(crate) fn arguments_of(ty: &HackType) -> &[HackType]
     }
 }
 
-/// A container as a `KeyedContainer`.
-pub(crate) fn as_keyed(alloc: Global, ty: &HackType) -> Result<Option<HackType>, NoMemory>
+/// A container as a `KeyedContainer`; nothing of any other type. An error says that memory ran out (docs/language.md, Subtyping, rule 11).
+pub fn as_keyed(alloc: Global, ty: &HackType) -> Result<Option<HackType>, NoMemory>
     ensures { IfOk result (λ answer. answer ≡ as_keyed ty.now) }
 {
     match ty {
