@@ -5,6 +5,7 @@ ghost use Rattle.hack_io.specs.Causes.{Rose};
 ghost use Rattle.hack_types.specs.declared.diag.FileDiag.{FileDiag};
 ghost use Rattle.check_state.specs.Findings.{IsFirstReport};
 ghost use Rattle.hack_serve.specs.Outcome.{IsAnswered, IsSettled, IsBrokenOff, IsStopped, IsCutShort, IsTooLong, Answers};
+ghost use Rattle.hack_serve.specs.Running.{AreNew};
 ghost use Rattle.hack_serve.specs.Told.{OfScript};
 
 use crate::Status;
@@ -108,9 +109,35 @@ fn reply_to_all<S: Source, K: Sink>(
 {
     let mut reader = ScriptReader::new(alloc)?;
     let mut session = Session::new(alloc)?;
-    while let Some(command) = next_command(alloc, &mut reader, source)? {
+    let end = reply_to_each(alloc, &mut reader, &mut session, source, sink);
+    drop(session);
+    drop(reader);
+    end
+}
+
+/// The same with a reader and a session that are lent, so that no way out of the loop has to end them.
+fn reply_to_each<S: Source, K: Sink>(
+    alloc: Global,
+    reader: &mut ScriptReader,
+    session: &mut Session,
+    source: &mut S,
+    sink: &mut K,
+) -> Result<(), Status>
+    requires { AreNew reader.old session.old }
+    ensures done { OnOk result (Answers Status.Done
+        (S.left source.old) (S.left source.new) (K.written sink.old) (K.written sink.new)) }
+    ensures stopped { IfErr result (λ status. Answers status
+        (S.left source.old) (S.left source.new) (K.written sink.old) (K.written sink.new)) }
+    ensures words { IfErr result (λ status. status ≢ Status.Usage) }
+    ensures reads_failed { IfErr result (λ status. status ≡ Status.ReadFault
+        → Rose (S.faults source.old) (S.faults source.new)) }
+    ensures writes_failed { IfErr result (λ status. status ≡ Status.WriteFault
+        → Rose (K.faults sink.old) (K.faults sink.new)) }
+{
+    while let Some(command) = next_command(alloc, reader, source)? {
         let reply = session.reply(alloc, command)?;
         let text = reply_text(alloc, &reply, false)?;
+        drop(reply);
         sink.push(&text)?;
     }
     Ok(())

@@ -2,10 +2,10 @@ use Rattle.std.proofs.Common.{◌≡◌, ◌+◌, ◌-◌, ◌*◌, ◌^◌, ◌
 use Rattle.script_text.specs.declared.stand.Stand.TheVariants.{BeforeHead}
 use Rattle.check_state.specs.Stands.{name_count}
 use Rattle.hack_serve.proofs.Runs.{HasRun}
-use Rattle.hack_serve.proofs.run.reply_to_all.Given as goal
+use Rattle.hack_serve.proofs.run.reply_to_each.Given as goal
 
-abbrev pub invariant-loop-session : goal.invariant-loop-session
-invariant-loop-session g l = record {
+abbrev pub invariant-loop-command : goal.invariant-loop-command
+invariant-loop-command g l = record {
   run : HasRun (g.S.Source.left l.fn.source) (g.S.Source.left l.source) (g.K.Sink.written l.fn.sink) (g.K.Sink.written l.sink) l.reader l.session;
   stand : l.reader.stand ≡ BeforeHead;
   reads : g.S.Source.faults l.fn.source ≤ g.S.Source.faults l.source;
@@ -17,5 +17,5 @@ invariant-loop-session g l = record {
 }
 
 -- the bytes that may still be used up
-abbrev pub decreases-loop-session : goal.decreases-loop-session
-decreases-loop-session g l = 2 ^ 31 + length l.reader.unused - l.reader.taken
+abbrev pub decreases-loop-command : goal.decreases-loop-command
+decreases-loop-command g l = 2 ^ 31 + length l.reader.unused - l.reader.taken
