@@ -2,7 +2,7 @@ use Rattle.std.proofs.Common.{length, take, ap, ◌∙◌, subst, arith}
 use Rattle.std.specs.Io.KnownBytes.{Appends}
 use Rattle.std.proofs.lemmas.Result.{err_from_is_err_and}
 use Rattle.script_text.specs.Reader.{Reader}
-use Rattle.hack_serve.proofs.Runs.{run_start, start_stopped, read_one, run_done, run_stopped, next_stopped, next_ended, next_replied, next_cut, uses_up, IsEnd, end_is, stand_at, none_from}
+use Rattle.hack_serve.proofs.Runs.{run_start, read_one, run_done, run_stopped, next_stopped, next_ended, next_replied, next_cut, uses_up, IsEnd, end_is, stand_at, none_from}
 use Rattle.hack_serve.proofs.run.reply_to_each.Goals as goal
 
 pub loop-command-init : goal.loop-command-init
