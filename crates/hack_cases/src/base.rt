@@ -1,89 +1,110 @@
 // Bytes and names, tables of cases, and the builtin text.
 
-use crate::run::{Table, run_rows};
+use crate::plain::{behind, split};
+use crate::types::symbol;
 use case_table::{Cases, cases};
 use hack_base::{Bytes, Name};
 use hack_builtin::builtin_text;
+use hack_show::Out;
 use hack_types::NoMemory;
-use std::alloc::{AllocError, Global};
+use std::alloc::Global;
 use std::cmp::Ordering;
-use std::test::Fail;
 
-// Whether a copy, its vector and what is made of that have these bytes.
-fn come_back(alloc: Global, bytes: &[u8]) -> Result<bool, AllocError> {
+/// The bytes as a copy has them, the vector of that, and what is made of the vector.
+pub(crate) fn given_back(alloc: Global, out: &mut Out<'_>, bytes: &[u8]) -> Result<(), NoMemory> {
     let copy = Bytes::copy_of(alloc, bytes)?;
-    let in_copy = copy.as_slice() == bytes;
+    out.push(copy.as_slice());
     let vector = copy.into_vec();
-    let in_vector = vector.as_slice() == bytes;
+    out.push(b"|");
+    out.push(vector.as_slice());
     let again = Bytes::from_vec(vector);
-    Ok(in_copy && in_vector && again.as_slice() == bytes)
-}
-
-#[test]
-fn bytes_are_given_back_as_they_came(rt: HostRuntime) -> Result<(), Fail> {
-    let cases: [&[u8]; 3] = [b"", b"a", b"a.hack\n\0\xff "];
-    for case in cases {
-        assert!(rt; come_back(rt.alloc(), case)?, "{case:?}");
-    }
+    out.push(b"|");
+    out.push(again.as_slice());
+    drop(again);
     Ok(())
 }
 
-// The order of the bytes by their numbers, where a name comes before each longer one that begins with it.
-#[test]
-fn names_are_in_the_order_of_their_bytes(rt: HostRuntime) {
-    let rising: [&[u8]; 12] = [
-        b"", b"-", b".", b"/", b"9", b"Z", b"_", b"a", b"a.a", b"aa", b"b", b"\xff",
-    ];
-    for (i, a) in rising.iter().enumerate() {
-        for (j, b) in rising.iter().enumerate() {
-            assert!(rt; stand_so(a, b, i.cmp(&j)), "names {i} and {j}");
+/// How many pairs of names, or of symbols, stand as their places in the list do, and the others.
+pub(crate) fn in_order(out: &mut Out<'_>, text: &[u8], symbols: bool) -> Result<(), NoMemory> {
+    let count = commas(text).wrapping_add(1);
+    let mut right: u64 = 0;
+    for i in 0..count {
+        for j in 0..count {
+            let (a, _) = split(behind(text, b',', i), b',');
+            let (b, _) = split(behind(text, b',', j), b',');
+            if stand_so(a, b, i.cmp(&j), symbols) {
+                right = right.wrapping_add(1);
+            } else {
+                out.number(i as u64);
+                out.number(j as u64);
+            }
         }
     }
+    out.number(right);
+    Ok(())
 }
 
-// Whether two names stand so to each other, and are equal exactly where that says it.
-fn stand_so(a: &[u8], b: &[u8], order: Ordering) -> bool {
-    let (a, b) = (Name::new(a), Name::new(b));
-    a.cmp(&b) == order && (a == b) == (order == Ordering::Equal)
+fn commas(text: &[u8]) -> u32 {
+    let mut count: u32 = 0;
+    for byte in text {
+        if *byte == b',' {
+            count = count.wrapping_add(1);
+        }
+    }
+    count
+}
+
+// Whether two names, or two symbols, stand so to each other, and are equal exactly where that says it.
+fn stand_so(a: &[u8], b: &[u8], order: Ordering, symbols: bool) -> bool {
+    let (found, equal) = if symbols {
+        let (a, b) = (symbol(a), symbol(b));
+        (a.cmp(&b), a == b)
+    } else {
+        let (a, b) = (Name::new(a), Name::new(b));
+        (a.cmp(&b), a == b)
+    };
+    found == order && equal == (order == Ordering::Equal)
 }
 
 /// The value of a word in the table of `a`, `ab` and `b`.
-pub(crate) fn value(alloc: Global, word: &[u8]) -> Result<Vec<u8>, NoMemory> {
-    let table = cases!("a" => 7, "ab" => 5, "b" => 9);
-    match table {
+pub(crate) fn value(out: &mut Out<'_>, word: &[u8]) -> Result<(), NoMemory> {
+    match cases!("a" => 7, "ab" => 5, "b" => 9) {
         Some(table) => match table.get(word) {
-            Some(value) => Ok(format!(in alloc; "{value}")?.into_bytes()),
-            None => Ok(Vec::from_slice(alloc, b"-")?),
+            Some(value) => out.number(value as u64),
+            None => out.word("-"),
         },
-        None => Ok(Vec::from_slice(alloc, b"no table")?),
+        None => out.word("no table"),
     }
-}
-
-/// Whether the text is a list of two words for a table.
-pub(crate) fn listed(alloc: Global, text: &[u8]) -> Result<Vec<u8>, NoMemory> {
-    let answer = match str::from_utf8(text) {
-        Ok(text) if Cases::new(text, [1, 2]).is_some() => "a table",
-        _ => "none",
-    };
-    Ok(Vec::from_slice(alloc, answer.as_bytes())?)
-}
-
-#[test]
-fn a_table_has_its_words_and_no_other(rt: HostRuntime) -> Result<(), Fail> {
-    let found = run_rows(rt.alloc(), Table::Words)?;
-    assert_eq!(rt; found.as_str(), "9 rows");
-    let found = run_rows(rt.alloc(), Table::Lists)?;
-    assert_eq!(rt; found.as_str(), "11 rows");
-    assert!(rt; Cases::new("", []).is_some());
-    assert!(rt; Cases::new(" ", []).is_none());
-    assert!(rt; cases!().is_some());
     Ok(())
 }
 
-// What the text is held against was counted line by line, by hand: 30 + 64 + 52 + 47 + 53 + 62 + 39 + 63 + 66 + 2 bytes.
-#[test]
-fn the_builtin_text_has_its_length_and_its_first_line(rt: HostRuntime) {
+/// Whether the text is a list of two words for a table.
+pub(crate) fn listed(out: &mut Out<'_>, text: &[u8]) -> Result<(), NoMemory> {
+    match str::from_utf8(text) {
+        Ok(text) if Cases::new(text, [1, 2]).is_some() => out.word("a table"),
+        _ => out.word("none"),
+    }
+    Ok(())
+}
+
+/// Whether the text is a list of no words, and whether no cases make a table.
+pub(crate) fn listed_none(out: &mut Out<'_>, text: &[u8]) -> Result<(), NoMemory> {
+    match str::from_utf8(text) {
+        Ok(text) if Cases::new(text, []).is_some() => out.word("a table"),
+        _ => out.word("none"),
+    }
+    if cases!().is_some() {
+        out.word("a table");
+    }
+    Ok(())
+}
+
+/// The length of the builtin text and its first line.
+pub(crate) fn builtin(out: &mut Out<'_>) -> Result<(), NoMemory> {
     let text = builtin_text();
-    assert_eq!(rt; text.len(), 478);
-    assert_eq!(rt; text.lines().next(), Some("interface Traversable<+Tv> {}"));
+    let (line, _) = split(text.as_bytes(), b'\n');
+    out.number(text.len() as u64);
+    out.push(b" ");
+    out.push(line);
+    Ok(())
 }

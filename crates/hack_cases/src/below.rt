@@ -1,122 +1,140 @@
 // Subtyping.
 
-use crate::folding::{declared, fold_all, kept};
-use crate::parse::read;
-use crate::run::{Table, run_rows};
-use hack_builtin::builtin_text;
+use crate::folding::{declare, fold_all};
 use hack_decls::MapDecls;
-use hack_show::Out;
 use hack_shallow::shallow_of;
+use hack_show::Out;
 use hack_sub::{Scope, is_sub};
 use hack_tree::Unit;
 use hack_types::{
-    ClassSig, HackType, MemberKind, NameId, Names, NoMemory, Param, Shallow, Signature, union_of,
+    ClassSig, HackType, MemberKind, NameId, NoMemory, Param, Shallow, Signature, union_of,
 };
 use sqlite_items::Items;
 use std::alloc::Global;
-use std::test::Fail;
+use std::collections::BTreeMap;
 
-// The union of what the parameters take.
-fn given(alloc: Global, params: &[Param]) -> Result<HackType, NoMemory> {
-    let mut types = Vec::with_capacity(alloc, params.len())?;
+// Adds what the parameters take.
+fn copy_types(alloc: Global, params: &[Param], types: &mut Vec<HackType>) -> Result<(), NoMemory> {
     for param in params {
         types.push(param.ty.copy(alloc)?)?;
     }
+    Ok(())
+}
+
+// The union of what the parameters take.
+fn taken(alloc: Global, params: &[Param]) -> Result<HackType, NoMemory> {
+    let mut types = Vec::new(alloc);
+    let done = copy_types(alloc, params, &mut types);
     let union = union_of(alloc, types.as_slice());
     drop(types);
+    done?;
     union
 }
 
-// Whether what the parameters take is below the result.
-fn is_below(
+// Shows whether what the parameters take is below this type.
+fn show_sub(
     alloc: Global,
+    out: &mut Out<'_>,
     decls: &mut MapDecls,
     scope: &Scope,
     params: &[Param],
     upper: &HackType,
-) -> Result<bool, NoMemory> {
-    let lower = given(alloc, params)?;
-    let found = kept(is_sub(alloc, decls, scope, &lower, upper));
+) -> Result<(), NoMemory> {
+    let lower = taken(alloc, params)?;
+    let found = is_sub(alloc, decls, scope, &lower, upper);
     drop(lower);
-    found
+    match found {
+        Ok(true) => out.word("below"),
+        Ok(false) => out.word("not"),
+        Err(_) => return Err(NoMemory),
+    }
+    Ok(())
 }
 
-// The same of a function.
+// The same of what a function returns.
 fn of_function(
     alloc: Global,
+    out: &mut Out<'_>,
     decls: &mut MapDecls,
     signature: Signature,
-) -> Result<bool, NoMemory> {
+) -> Result<(), NoMemory> {
     let scope = Scope {
         class: None,
         in_static: true,
         fun_params: signature.type_params,
-        result: HackType::Any,
+        result: signature.result,
     };
-    let found = is_below(alloc, decls, &scope, signature.params.as_slice(), &signature.result);
+    let done = show_sub(
+        alloc,
+        out,
+        decls,
+        &scope,
+        signature.params.as_slice(),
+        &scope.result,
+    );
     drop(scope);
-    found
+    done
 }
 
-// The same of the first method of a class.
+// The same of what the first method of a class returns.
 fn of_method(
     alloc: Global,
+    out: &mut Out<'_>,
     decls: &mut MapDecls,
     name: NameId,
     class: ClassSig,
-) -> Result<bool, NoMemory> {
+) -> Result<(), NoMemory> {
     let scope = Scope {
         class: Some((name, class.type_params)),
         in_static: false,
-        fun_params: Items::from_vec(Vec::new(alloc)),
+        fun_params: Items::new(alloc),
         result: HackType::Any,
     };
-    let found = match class.members.as_slice().first().map(|member| &member.kind) {
+    let done = match class.members.as_slice().first().map(|member| &member.kind) {
         Some(MemberKind::Method(signature)) => {
-            is_below(alloc, decls, &scope, signature.params.as_slice(), &signature.result)
+            let params = signature.params.as_slice();
+            show_sub(alloc, out, decls, &scope, params, &signature.result)
         }
-        _ => Ok(false),
+        _ => Ok(()),
     };
     drop(scope);
-    found
+    done
 }
 
-fn of_last(alloc: Global, units: &[Unit]) -> Result<bool, NoMemory> {
-    let Some(unit) = units.last() else {
-        return Ok(false);
-    };
-    let shallows = declared(alloc, units)?;
-    let decls = fold_all(alloc, &shallows);
-    drop(shallows);
-    let mut decls = decls?;
+fn of_unit(
+    alloc: Global,
+    out: &mut Out<'_>,
+    decls: &mut MapDecls,
+    unit: &Unit,
+) -> Result<(), NoMemory> {
     match shallow_of(alloc, unit)? {
-        Shallow::Function(signature) => of_function(alloc, &mut decls, signature),
-        Shallow::ClassLike(class) => of_method(alloc, &mut decls, unit.symbol.name, class),
-        _ => Ok(false),
+        Shallow::Function(signature) => of_function(alloc, out, decls, signature),
+        Shallow::ClassLike(class) => of_method(alloc, out, decls, unit.symbol.name, class),
+        _ => Ok(()),
     }
 }
 
-/// Whether what the last declaration's parameters take is below what it returns, over all of them and the builtin ones:
-/// `below` or `not`; of a class its first method.
-pub(crate) fn judged(alloc: Global, text: &[u8]) -> Result<Vec<u8>, NoMemory> {
-    let mut names = Names::new(alloc);
-    let mut whole = Vec::new(alloc);
-    whole.extend_from_slice(builtin_text().as_bytes())?;
-    whole.extend_from_slice(text)?;
-    let tree = read(alloc, &mut names, whole.as_slice())?;
-    let found = match &tree {
-        Some(tree) => of_last(alloc, tree.units.as_slice()),
-        None => Ok(false),
+fn fold_units(alloc: Global, units: &[Unit], decls: &mut MapDecls) -> Result<(), NoMemory> {
+    let mut shallows = BTreeMap::new(alloc);
+    let done = match declare(alloc, units, &mut shallows) {
+        Ok(()) => fold_all(alloc, units, &shallows, decls),
+        Err(stop) => Err(stop),
     };
-    drop(tree);
-    let mut out = Out::new(alloc, &names);
-    out.word(if found? { "below" } else { "not" });
-    out.finish()
+    drop(shallows);
+    done
 }
 
-#[test]
-fn types_are_below_others_by_the_rules(rt: HostRuntime) -> Result<(), Fail> {
-    let found = run_rows(rt.alloc(), Table::Below)?;
-    assert_eq!(rt; found.as_str(), "72 rows");
-    Ok(())
+/// Shows whether what the parameters of the last declaration take is below what it returns, over all of them: `below` or
+/// `not`. Several parameters take a union; of a class the first method is meant.
+pub(crate) fn show_last(alloc: Global, out: &mut Out<'_>, units: &[Unit]) -> Result<(), NoMemory> {
+    let Some(unit) = units.last() else {
+        return Ok(());
+    };
+    let mut decls = MapDecls::new(alloc);
+    let done = match fold_units(alloc, units, &mut decls) {
+        Ok(()) => of_unit(alloc, out, &mut decls, unit),
+        Err(stop) => Err(stop),
+    };
+    drop(decls);
+    done
 }

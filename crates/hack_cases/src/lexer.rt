@@ -1,48 +1,39 @@
 // Tokens.
 
-use crate::run::{Table, run_rows};
+use crate::plain::{push_fault, push_number};
 use hack_lexer::{LexStop, Token, tokens};
+use hack_show::Out;
 use hack_types::NoMemory;
 use std::alloc::Global;
-use std::test::Fail;
 
 /// `SORT:AT:LEN` of each token and `-` for none, or `fault CODE LINE:COLUMN`.
-pub(crate) fn cut(alloc: Global, text: &[u8]) -> Result<Vec<u8>, NoMemory> {
+pub(crate) fn cut(alloc: Global, out: &mut Out<'_>, text: &[u8]) -> Result<(), NoMemory> {
     if text.len() > 1_048_576 {
-        return Ok(Vec::new(alloc));
+        return Ok(());
     }
     match tokens(alloc, text) {
-        Ok(list) => shown(alloc, list.as_slice()),
+        Ok(list) => {
+            show(alloc, out, list.as_slice());
+            drop(list);
+        }
         Err(LexStop::Fault { place, code }) => {
-            let line = place.line;
-            let column = place.column;
-            Ok(format!(in alloc; "fault {code} {line}:{column}")?.into_bytes())
+            out.word("fault");
+            push_fault(alloc, out, code, place);
         }
-        Err(LexStop::NoMemory) => Err(NoMemory),
+        Err(LexStop::NoMemory) => out.word("no memory"),
     }
-}
-
-fn shown(alloc: Global, list: &[Token]) -> Result<Vec<u8>, NoMemory> {
-    let mut out = Vec::new(alloc);
-    for token in list {
-        if !out.is_empty() {
-            out.push(b' ')?;
-        }
-        let sort = token.sort;
-        let at = token.at;
-        let len = token.len;
-        let one = format!(in alloc; "{sort}:{at}:{len}")?;
-        out.extend_from_slice(one.as_bytes())?;
-    }
-    if out.is_empty() {
-        out.push(b'-')?;
-    }
-    Ok(out)
-}
-
-#[test]
-fn texts_have_the_tokens_and_faults_of_the_page(rt: HostRuntime) -> Result<(), Fail> {
-    let found = run_rows(rt.alloc(), Table::Tokens)?;
-    assert_eq!(rt; found.as_str(), "104 rows");
     Ok(())
+}
+
+fn show(alloc: Global, out: &mut Out<'_>, list: &[Token]) {
+    if list.is_empty() {
+        out.word("-");
+    }
+    for token in list {
+        out.number(token.sort as u64);
+        out.push(b":");
+        push_number(alloc, out, token.at as u64);
+        out.push(b":");
+        push_number(alloc, out, token.len as u64);
+    }
 }

@@ -1,7 +1,7 @@
-//! The tests of the other crates: rows of texts and answers that were worked out by hand, and short tests where no text
-//! stands for the values. A row is a line `text ¦ answer` of `src/rows/NAME.rt`, for the crate of that name. There `\n`,
-//! `\t`, `\\` and `\xNN` are bytes, and `\*COUNT«text»` is a text so many times. The crates below have no tests, since a
-//! crate with tests is proved a second time with them.
+//! The tests of the other crates, as rows of texts and answers that were worked out by hand: a line `text ¦ answer` of
+//! `src/rows/NAME.rt`, for the crate of that name. There `\n`, `\t`, `\\` and `\xNN` are bytes, and `\*COUNT«text»` is a
+//! text so many times. `run.rt` has the tables of rows, and which call answers each. The crates below have no tests, since
+//! a crate with tests is proved a second time with them, and this one has a single test, since each test is proved too.
 #![tactic(auto)]
 
 #[cfg(test)]
@@ -11,7 +11,7 @@ mod below;
 #[cfg(test)]
 mod diagnostics;
 #[cfg(test)]
-mod first;
+mod files;
 #[cfg(test)]
 mod folding;
 #[cfg(test)]
@@ -20,8 +20,6 @@ mod lexer;
 mod machine;
 #[cfg(test)]
 mod naming;
-#[cfg(test)]
-mod parse;
 #[cfg(test)]
 mod plain;
 #[cfg(test)]
@@ -32,8 +30,6 @@ mod run;
 mod scripts;
 #[cfg(test)]
 mod serve;
-#[cfg(test)]
-mod shallow;
 #[cfg(test)]
 mod streams;
 #[cfg(test)]

@@ -1,11 +1,11 @@
 // Which declaration counts: files are put and taken out, with declarations that no text has side by side.
 
-use crate::plain::split;
-use crate::run::{Table, run_rows};
+use crate::plain::{push_number, split};
+use crate::types::symbol_of;
 use hack_names::{NamingTable, UnitHead, UnitRef};
-use hack_types::{Kind, NameId, NoMemory, Place, SymbolId};
+use hack_show::Out;
+use hack_types::{Kind, NoMemory, Place};
 use std::alloc::Global;
-use std::test::Fail;
 
 // The symbols that are asked for.
 const ASKED: [(Kind, u32); 4] = [
@@ -37,19 +37,11 @@ fn units(file: &[u8]) -> &'static [Unit] {
     }
 }
 
-fn symbol(kind: Kind, number: u32) -> SymbolId {
-    SymbolId {
-        kind,
-        name: NameId::new(number.min(9)),
-    }
-}
-
-fn heads(alloc: Global, file: &[u8]) -> Result<Vec<UnitHead>, NoMemory> {
-    let mut heads = Vec::new(alloc);
+fn add_heads(alloc: Global, file: &[u8], heads: &mut Vec<UnitHead>) -> Result<(), NoMemory> {
     let mut index: u32 = 0;
     for (kind, number, line, column, name_column) in units(file) {
-        heads.push(UnitHead {
-            symbol: symbol(*kind, *number),
+        let head = UnitHead {
+            symbol: symbol_of(*kind, *number),
             at: Place {
                 line: *line,
                 column: *column,
@@ -59,71 +51,86 @@ fn heads(alloc: Global, file: &[u8]) -> Result<Vec<UnitHead>, NoMemory> {
                 column: *name_column,
             },
             index,
-        })?;
+        };
+        heads.push(head)?;
         index = index.wrapping_add(1);
     }
-    Ok(heads)
+    Ok(())
 }
 
 // `+FILE` puts a file, and `-FILE` takes it out.
 fn change(alloc: Global, table: &mut NamingTable, word: &[u8]) -> Result<(), NoMemory> {
-    let Some((sign, file)) = word.split_first() else {
-        return Ok(());
-    };
-    table.remove_file(file);
-    if *sign == b'+' {
-        table.add_file(alloc, file, heads(alloc, file)?.as_slice())?;
+    match word {
+        [b'+', file @ ..] => {
+            let mut heads = Vec::new(alloc);
+            let added = add_heads(alloc, file, &mut heads);
+            let done = put(alloc, table, file, heads.as_slice());
+            drop(heads);
+            added?;
+            done
+        }
+        [_, file @ ..] => {
+            table.remove_file(file);
+            Ok(())
+        }
+        [] => Ok(()),
     }
-    Ok(())
 }
 
-// The file, the declaration's place in it, and a `;`.
-fn show(alloc: Global, out: &mut Vec<u8>, file: &[u8], index: u32) -> Result<(), NoMemory> {
-    out.extend_from_slice(file)?;
-    out.extend_from_slice(format!(in alloc; "{index};")?.as_bytes())?;
-    Ok(())
+fn put(
+    alloc: Global,
+    table: &mut NamingTable,
+    file: &[u8],
+    heads: &[UnitHead],
+) -> Result<(), NoMemory> {
+    table.remove_file(file);
+    table.add_file(alloc, file, heads)
 }
 
 /// What counts of each symbol after all changes, and what doesn't.
-pub(crate) fn counted(alloc: Global, text: &[u8]) -> Result<Vec<u8>, NoMemory> {
+pub(crate) fn counted(alloc: Global, out: &mut Out<'_>, text: &[u8]) -> Result<(), NoMemory> {
     let mut table = NamingTable::new(alloc);
+    let done = change_all(alloc, &mut table, text);
+    show_winners(alloc, out, &table);
+    out.push(b" but not");
+    let losers = table.losers(alloc);
+    drop(table);
+    if let Ok(losers) = &losers {
+        show_losers(alloc, out, losers.as_slice());
+    }
+    drop(losers);
+    done
+}
+
+fn change_all(alloc: Global, table: &mut NamingTable, text: &[u8]) -> Result<(), NoMemory> {
     let mut rest = text;
     for _ in 0..text.len() {
         let (word, behind) = split(rest, b' ');
-        change(alloc, &mut table, word)?;
+        change(alloc, table, word)?;
         rest = behind;
     }
-    let mut out = Vec::new(alloc);
-    show_winners(alloc, &mut out, &table)?;
-    out.extend_from_slice(b" but not")?;
-    let losers = table.losers(alloc)?;
-    let shown = show_losers(alloc, &mut out, &losers);
-    drop(losers);
-    shown?;
-    Ok(out)
+    Ok(())
 }
 
-fn show_winners(alloc: Global, out: &mut Vec<u8>, table: &NamingTable) -> Result<(), NoMemory> {
+fn show_winners(alloc: Global, out: &mut Out<'_>, table: &NamingTable) {
     for (kind, number) in ASKED {
-        match table.winner(symbol(kind, number)) {
-            Some(unit) => show(alloc, out, unit.file, unit.head.index)?,
-            None => out.extend_from_slice(b"-;")?,
+        match table.winner(symbol_of(kind, number)) {
+            Some(unit) => show(alloc, out, unit.file, unit.head.index),
+            None => out.push(b"-;"),
         }
     }
-    Ok(())
 }
 
-fn show_losers(alloc: Global, out: &mut Vec<u8>, losers: &[UnitRef]) -> Result<(), NoMemory> {
+fn show_losers(alloc: Global, out: &mut Out<'_>, losers: &[UnitRef]) {
     for unit in losers {
-        out.push(b' ')?;
-        show(alloc, out, unit.file.as_slice(), unit.head.index)?;
+        out.push(b" ");
+        show(alloc, out, unit.file.as_slice(), unit.head.index);
     }
-    Ok(())
 }
 
-#[test]
-fn the_first_declaration_counts_and_all_others_lose(rt: HostRuntime) -> Result<(), Fail> {
-    let found = run_rows(rt.alloc(), Table::Naming)?;
-    assert_eq!(rt; found.as_str(), "7 rows");
-    Ok(())
+// The file, the declaration's place in it, and a `;`.
+fn show(alloc: Global, out: &mut Out<'_>, file: &[u8], index: u32) {
+    out.push(file);
+    push_number(alloc, out, index as u64);
+    out.push(b";");
 }

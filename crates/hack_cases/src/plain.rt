@@ -1,56 +1,48 @@
-// The bytes that a row's text stands for, and the other way round.
+// What rows are written with: the bytes that a text stands for, numbers, pieces between marks, and how answers are shown.
 
-use hack_types::NoMemory;
+use hack_show::Out;
+use hack_types::Place;
 use std::alloc::Global;
 
-/// The bytes of a text with escapes.
-pub(crate) fn plain(alloc: Global, text: &str) -> Result<Vec<u8>, NoMemory> {
-    let mut bytes = Vec::new(alloc);
+/// Adds the bytes that a text with escapes stands for.
+pub(crate) fn plain(out: &mut Out<'_>, text: &str) {
     // whether the piece stands behind a backslash
     let mut escaped = false;
     for piece in text.split('\\') {
         if !escaped {
-            bytes.extend_from_slice(piece.as_bytes())?;
+            out.push(piece.as_bytes());
             escaped = true;
         } else if piece.is_empty() {
-            bytes.push(b'\\')?;
+            out.push(b"\\");
             escaped = false;
         } else {
-            push_escaped(&mut bytes, piece)?;
+            push_escaped(out, piece);
         }
     }
-    Ok(bytes)
 }
 
 // A piece behind a backslash.
-fn push_escaped(bytes: &mut Vec<u8>, piece: &str) -> Result<(), NoMemory> {
+fn push_escaped(out: &mut Out<'_>, piece: &str) {
     if let Some(rest) = piece.strip_prefix("*") {
-        return push_repeated(bytes, rest);
+        push_repeated(out, rest);
+        return;
     }
     let all = piece.as_bytes();
-    let rest = match all.first() {
-        Some(b'n') => {
-            bytes.push(b'\n')?;
-            all.get(1..)
-        }
-        Some(b't') => {
-            bytes.push(b'\t')?;
-            all.get(1..)
-        }
-        Some(b'x') => {
-            bytes.push(
-                hex(all.get(1))
-                    .wrapping_mul(16)
-                    .wrapping_add(hex(all.get(2))),
-            )?;
-            all.get(3..)
-        }
-        _ => Some(all),
+    let (byte, len) = match all.first() {
+        Some(b'n') => (b'\n', 1),
+        Some(b't') => (b'\t', 1),
+        Some(b'x') => (
+            hex(all.get(1))
+                .wrapping_mul(16)
+                .wrapping_add(hex(all.get(2))),
+            3,
+        ),
+        _ => (b'?', 0),
     };
-    if let Some(rest) = rest {
-        bytes.extend_from_slice(rest)?;
+    out.push(&[byte]);
+    if let Some(rest) = all.get(len..) {
+        out.push(rest);
     }
-    Ok(())
 }
 
 fn hex(digit: Option<&u8>) -> u8 {
@@ -62,16 +54,17 @@ fn hex(digit: Option<&u8>) -> u8 {
 }
 
 // `COUNT«text»`, and what stands behind it.
-fn push_repeated(bytes: &mut Vec<u8>, piece: &str) -> Result<(), NoMemory> {
-    if let Some((count, rest)) = piece.split_once('«') {
-        if let Some((text, behind)) = rest.split_once('»') {
-            for _ in 0..number(count.as_bytes()) {
-                bytes.extend_from_slice(text.as_bytes())?;
-            }
-            bytes.extend_from_slice(behind.as_bytes())?;
-        }
+fn push_repeated(out: &mut Out<'_>, piece: &str) {
+    let Some((count, rest)) = piece.split_once('«') else {
+        return;
+    };
+    let Some((text, behind)) = rest.split_once('»') else {
+        return;
+    };
+    for _ in 0..number(count.as_bytes()) {
+        out.push(text.as_bytes());
     }
-    Ok(())
+    out.push(behind.as_bytes());
 }
 
 /// The number that a text of digits writes.
@@ -95,16 +88,80 @@ pub(crate) fn split(text: &[u8], by: u8) -> (&[u8], &[u8]) {
     (text, b"")
 }
 
-/// Bytes with escapes for those that aren't printable ASCII.
-pub(crate) fn shown(alloc: Global, bytes: &[u8]) -> Result<String, NoMemory> {
-    let mut text = String::new(alloc);
-    for byte in bytes {
-        match *byte {
-            b'\n' => text.push_str("\\n")?,
-            b'\\' => text.push_str("\\\\")?,
-            b' '..=b'~' => text.push(*byte as char)?,
-            other => text.push_str(&format!(in alloc; "\\x{other:02x}")?)?,
+/// What stands behind so many of these bytes.
+pub(crate) fn behind(text: &[u8], by: u8, count: u32) -> &[u8] {
+    let mut rest = text;
+    for _ in 0..count {
+        rest = split(rest, by).1;
+    }
+    rest
+}
+
+/// The number behind so many blanks; 0 where there are fewer.
+pub(crate) fn nth(text: &[u8], place: u32) -> u64 {
+    number(split(behind(text, b' ', place), b' ').0)
+}
+
+/// How many of these bytes stand ahead, and what stands behind them.
+pub(crate) fn ahead(text: &[u8], mark: u8) -> (u64, &[u8]) {
+    for at in 0..text.len() {
+        if text[at] != mark {
+            return (at as u64, &text[at..]);
         }
     }
-    Ok(text)
+    (0, text)
+}
+
+/// Adds a number as it is.
+pub(crate) fn push_number(alloc: Global, out: &mut Out<'_>, number: u64) {
+    match format!(in alloc; "{number}") {
+        Ok(text) => out.push(text.as_bytes()),
+        Err(_) => out.push(b"no memory"),
+    }
+}
+
+/// Adds `CODE LINE:COLUMN`.
+pub(crate) fn push_fault(alloc: Global, out: &mut Out<'_>, code: u16, place: Place) {
+    out.number(code as u64);
+    out.number(place.line as u64);
+    out.push(b":");
+    push_number(alloc, out, place.column as u64);
+}
+
+/// Adds what was made. Where memory ran out it says so, which no row asks for.
+pub(crate) fn push_made<E: Drop>(out: &mut Out<'_>, made: Result<Vec<u8>, E>) {
+    match made {
+        Ok(text) => out.push(text.as_slice()),
+        Err(_) => out.push(b"no memory"),
+    }
+}
+
+/// Says so where memory ran out.
+pub(crate) fn note<E: Drop>(out: &mut Out<'_>, done: Result<(), E>) {
+    if done.is_err() {
+        out.push(b"no memory");
+    }
+}
+
+/// Adds bytes with escapes for those that aren't printable ASCII.
+pub(crate) fn show(out: &mut Out<'_>, bytes: &[u8]) {
+    for byte in bytes {
+        match *byte {
+            b'\n' => out.push(b"\\n"),
+            b'\\' => out.push(b"\\\\"),
+            b' '..=b'~' => out.push(&[*byte]),
+            other => {
+                out.push(b"\\x");
+                out.push(&[digit(other / 16), digit(other % 16)]);
+            }
+        }
+    }
+}
+
+fn digit(value: u8) -> u8 {
+    if value < 10 {
+        value.wrapping_add(b'0')
+    } else {
+        value.wrapping_sub(10).wrapping_add(b'a')
+    }
 }

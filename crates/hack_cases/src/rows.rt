@@ -1,5 +1,6 @@
 // The rows, one file for each crate.
 
+pub(crate) mod base;
 pub(crate) mod below;
 pub(crate) mod diag;
 pub(crate) mod first;
@@ -11,5 +12,6 @@ pub(crate) mod parse_decl;
 pub(crate) mod scripts;
 pub(crate) mod serve;
 pub(crate) mod shallow;
+pub(crate) mod streams;
 pub(crate) mod types;
 pub(crate) mod words;

@@ -1,143 +1,261 @@
-// The tables of rows, and how they are tried.
+// The tables of rows, what answers them, and how they are tried.
 
-use crate::plain::{plain, shown};
+use crate::files::of_file;
+use crate::plain::{note, plain, show};
 use crate::{
-    base, below, diagnostics, first, folding, lexer, machine, naming, parse, rows, scripts, serve,
-    shallow, types,
+    base, diagnostics, folding, lexer, machine, naming, rows, scripts, serve, streams, texts, types,
 };
-use hack_types::NoMemory;
+use hack_show::Out;
+use hack_types::{Names, NoMemory};
 use std::alloc::Global;
+use std::test::Fail;
 
-/// A table of rows.
+/// A table of rows. Scripts come in pieces of so many bytes.
 #[derive(Clone, Copy)]
 pub(crate) enum Table {
     Words,
     Lists,
+    NoWords,
+    Bytes,
+    NameOrder,
+    Builtin,
+    Reads,
+    Writes,
+    Sources,
+    Sinks,
     Names,
-    Options,
-    Nodes,
+    SymbolOrder,
+    TypeTexts,
     Written,
     Ordered,
     Naming,
-    Scripts,
+    Scripts(usize),
     Limits,
     Faults,
+    Replies,
     Tokens,
     Files,
-    Long,
     Trees,
     Signatures,
+    Options,
+    Nodes,
+    Joins,
+    PutIn,
+    Different,
     Folded,
     Lines,
     Below,
     Units,
     Machine,
-    Served,
+    Served(usize),
     Stopped,
+    Statuses,
 }
+
+const ALL: [Table; 41] = [
+    Table::Words,
+    Table::Lists,
+    Table::NoWords,
+    Table::Bytes,
+    Table::NameOrder,
+    Table::Builtin,
+    Table::Reads,
+    Table::Writes,
+    Table::Sources,
+    Table::Sinks,
+    Table::Names,
+    Table::SymbolOrder,
+    Table::TypeTexts,
+    Table::Written,
+    Table::Ordered,
+    Table::Naming,
+    Table::Scripts(1),
+    Table::Scripts(7),
+    Table::Scripts(4096),
+    Table::Limits,
+    Table::Faults,
+    Table::Replies,
+    Table::Tokens,
+    Table::Files,
+    Table::Trees,
+    Table::Signatures,
+    Table::Options,
+    Table::Nodes,
+    Table::Joins,
+    Table::PutIn,
+    Table::Different,
+    Table::Folded,
+    Table::Lines,
+    Table::Below,
+    Table::Units,
+    Table::Machine,
+    Table::Served(1),
+    Table::Served(7),
+    Table::Served(4096),
+    Table::Stopped,
+    Table::Statuses,
+];
 
 impl Table {
     fn rows(self) -> &'static str {
         match self {
             Table::Words => rows::words::WORDS,
             Table::Lists => rows::words::LISTS,
+            Table::NoWords => rows::words::NO_WORDS,
+            Table::Bytes => rows::base::BYTES,
+            Table::NameOrder => rows::base::NAMES,
+            Table::Builtin => rows::base::BUILTIN,
+            Table::Reads => rows::streams::READS,
+            Table::Writes => rows::streams::WRITES,
+            Table::Sources => rows::streams::SOURCES,
+            Table::Sinks => rows::streams::SINKS,
             Table::Names => rows::types::NAMES,
-            Table::Options => rows::types::OPTIONS,
-            Table::Nodes => rows::types::NODES,
+            Table::SymbolOrder => rows::types::SYMBOLS,
+            Table::TypeTexts => rows::types::TEXTS,
             Table::Written => rows::diag::WRITTEN,
             Table::Ordered => rows::diag::ORDERED,
             Table::Naming => rows::naming::STEPS,
-            Table::Scripts => rows::scripts::SCRIPTS,
+            Table::Scripts(_) => rows::scripts::SCRIPTS,
             Table::Limits => rows::scripts::LIMITS,
             Table::Faults => rows::scripts::FAULTS,
+            Table::Replies => rows::scripts::REPLIES,
             Table::Tokens => rows::lexer::TOKENS,
-            Table::Files => rows::parse_decl::FAULTS,
-            Table::Long => rows::parse_decl::LONG,
+            Table::Files => rows::parse_decl::FILES,
             Table::Trees => rows::parse_decl::TREES,
             Table::Signatures => rows::shallow::SIGNATURES,
+            Table::Options => rows::types::OPTIONS,
+            Table::Nodes => rows::types::NODES,
+            Table::Joins => rows::types::JOINS,
+            Table::PutIn => rows::types::PUT_IN,
+            Table::Different => rows::types::DIFFERENT,
             Table::Folded => rows::folding::FOLDED,
             Table::Lines => rows::folding::LINES,
             Table::Below => rows::below::BELOW,
             Table::Units => rows::first::UNITS,
             Table::Machine => rows::machine::RUNS,
-            Table::Served => rows::serve::SERVED,
+            Table::Served(_) => rows::serve::SERVED,
             Table::Stopped => rows::serve::STOPPED,
+            Table::Statuses => rows::serve::STATUSES,
         }
     }
 
-    fn answer(self, alloc: Global, text: &[u8]) -> Result<Vec<u8>, NoMemory> {
+    // Shows the answer to a text.
+    fn answer(self, alloc: Global, out: &mut Out<'_>, text: &[u8]) -> Result<(), NoMemory> {
         match self {
-            Table::Words => base::value(alloc, text),
-            Table::Lists => base::listed(alloc, text),
-            Table::Names => types::interned(alloc, text),
-            Table::Options => types::optional(alloc, text),
-            Table::Nodes => types::nodes(alloc, text),
-            Table::Written => diagnostics::written(alloc, text),
-            Table::Ordered => diagnostics::ordered(alloc, text),
-            Table::Naming => naming::counted(alloc, text),
-            Table::Scripts => scripts::outlined(alloc, text),
-            Table::Limits => scripts::end_of(alloc, text),
-            Table::Faults => scripts::with_fault(alloc, text),
-            Table::Tokens => lexer::cut(alloc, text),
-            Table::Files | Table::Long => parse::counted(alloc, text),
-            Table::Trees => parse::tree(alloc, text),
-            Table::Signatures => shallow::signatures(alloc, text),
-            Table::Folded => folding::last_folded(alloc, text),
-            Table::Lines => folding::last_line(alloc, text),
-            Table::Below => below::judged(alloc, text),
-            Table::Units => first::units(alloc, text),
-            Table::Machine => machine::ended(alloc, text),
-            Table::Served => serve::served(alloc, text),
-            Table::Stopped => serve::stopped(alloc, text),
+            Table::Words => base::value(out, text),
+            Table::Lists => base::listed(out, text),
+            Table::NoWords => base::listed_none(out, text),
+            Table::Bytes => base::given_back(alloc, out, text),
+            Table::NameOrder => base::in_order(out, text, false),
+            Table::SymbolOrder => base::in_order(out, text, true),
+            Table::Builtin => base::builtin(out),
+            Table::Reads => streams::read(alloc, out, text),
+            Table::Writes => streams::write(alloc, out, text),
+            Table::Sources => streams::source(alloc, out, text),
+            Table::Sinks => streams::sink(alloc, out, text),
+            Table::Names => types::interned(alloc, out, text),
+            Table::TypeTexts => texts::written(alloc, out, text),
+            Table::Written => diagnostics::written(alloc, out, text),
+            Table::Ordered => diagnostics::ordered(alloc, out, text),
+            Table::Naming => naming::counted(alloc, out, text),
+            Table::Scripts(piece) => scripts::outlined(alloc, out, text, piece),
+            Table::Limits => scripts::outlined(alloc, out, text, 60_000),
+            Table::Faults => scripts::outlined(alloc, out, text, 2),
+            Table::Replies => scripts::replied(alloc, out, text),
+            Table::Tokens => lexer::cut(alloc, out, text),
+            Table::Machine => machine::ended(alloc, out, text),
+            Table::Served(piece) => serve::served(alloc, out, text, piece),
+            Table::Stopped => serve::served(alloc, out, text, 1),
+            Table::Statuses => serve::status(alloc, out, text),
+            _ => of_file(alloc, self, out, text),
         }
     }
 }
 
-/// How many rows there are where each answer is found, as `12 rows`; else the first row that differs, and what was found.
-pub(crate) fn run_rows(alloc: Global, table: Table) -> Result<String, NoMemory> {
-    let mut count: u32 = 0;
+// Each row that differs is shown, and how many don't. Those of scripts count three times.
+#[test]
+fn each_row_has_its_answer(rt: HostRuntime) -> Result<(), Fail> {
+    let report = try_all(rt.alloc())?;
+    assert_eq!(rt; str::from_utf8(&report).unwrap_or("?"), "1021 rows");
+    Ok(())
+}
+
+fn try_all(alloc: Global) -> Result<Vec<u8>, NoMemory> {
+    let names = Names::new(alloc);
+    let mut report = Out::new(alloc, &names);
+    let mut right: u32 = 0;
+    for table in ALL {
+        right = right.wrapping_add(try_table(alloc, table, &mut report));
+    }
+    report.number(right as u64);
+    report.word("rows");
+    let report = report.finish();
+    drop(names);
+    report
+}
+
+fn try_table(alloc: Global, table: Table, report: &mut Out<'_>) -> u32 {
+    let mut right: u32 = 0;
     for row in table.rows().split('\n') {
-        if row.is_empty() {
-            continue;
+        if !row.is_empty() && is_right(alloc, table, row, report) {
+            right = right.wrapping_add(1);
         }
-        if let Some(fault) = fault_of(alloc, table, row)? {
-            return Ok(fault);
-        }
-        count = count.wrapping_add(1);
     }
-    Ok(format!(in alloc; "{count} rows")?)
+    right
 }
 
-// What is wrong with a row, if anything is.
-fn fault_of(alloc: Global, table: Table, row: &str) -> Result<Option<String>, NoMemory> {
+fn is_right(alloc: Global, table: Table, row: &str, report: &mut Out<'_>) -> bool {
+    match try_row(alloc, table, row, report) {
+        Ok(right) => right,
+        Err(NoMemory) => {
+            report.push(b"no memory\n");
+            false
+        }
+    }
+}
+
+fn try_row(alloc: Global, table: Table, row: &str, report: &mut Out<'_>) -> Result<bool, NoMemory> {
     let Some((text, wanted)) = row.split_once(" ¦ ") else {
-        return Ok(Some(format!(in alloc; "no answer in: {row}")?));
+        report.push(row.as_bytes());
+        report.push(b"\nno answer\n");
+        return Ok(false);
     };
     let found = answer_to(alloc, table, text)?;
-    let fault = difference(alloc, row, found.as_slice(), wanted);
+    let right = has_bytes(alloc, found.as_slice(), wanted);
+    if let Ok(false) = right {
+        report.push(row.as_bytes());
+        report.push(b"\nfound: ");
+        show(report, found.as_slice());
+        report.push(b"\n");
+    }
     drop(found);
-    fault
+    right
+}
+
+fn has_bytes(alloc: Global, found: &[u8], wanted: &str) -> Result<bool, NoMemory> {
+    let wanted = bytes_of(alloc, wanted)?;
+    let right = found == wanted.as_slice();
+    drop(wanted);
+    Ok(right)
 }
 
 fn answer_to(alloc: Global, table: Table, text: &str) -> Result<Vec<u8>, NoMemory> {
-    let text = plain(alloc, text)?;
-    let found = table.answer(alloc, text.as_slice());
-    drop(text);
+    let bytes = bytes_of(alloc, text)?;
+    let names = Names::new(alloc);
+    let mut out = Out::new(alloc, &names);
+    let done = table.answer(alloc, &mut out, bytes.as_slice());
+    drop(bytes);
+    note(&mut out, done);
+    let found = out.finish();
+    drop(names);
     found
 }
 
-fn difference(
-    alloc: Global,
-    row: &str,
-    found: &[u8],
-    wanted: &str,
-) -> Result<Option<String>, NoMemory> {
-    let wanted = plain(alloc, wanted)?;
-    let is_found = found == wanted.as_slice();
-    drop(wanted);
-    if is_found {
-        return Ok(None);
-    }
-    let found = shown(alloc, found)?;
-    Ok(Some(format!(in alloc; "{row}\nfound: {found}")?))
+fn bytes_of(alloc: Global, text: &str) -> Result<Vec<u8>, NoMemory> {
+    let names = Names::new(alloc);
+    let mut out = Out::new(alloc, &names);
+    plain(&mut out, text);
+    let bytes = out.finish();
+    drop(names);
+    bytes
 }

@@ -1,93 +1,78 @@
-// Runs of the top call over sources and sinks in memory.
-ghost use Rattle.std.specs.Prelude.{◌≤◌};
-
-use crate::run::{Table, run_rows};
-use crate::scripts::{ahead, here};
-use hack_io::{MemorySink, MemorySource, NoMemory, Source};
+// Runs of the top call over sources and sinks in memory, and statuses.
+use crate::plain::ahead;
+use crate::streams::{sink_of, source_of};
+use hack_io::{MemorySource, Source};
 use hack_serve::{Status, hack_main};
-use hack_types::NoMemory as NoMemoryHere;
+use hack_show::Out;
+use hack_types::NoMemory;
 use std::alloc::Global;
-use std::test::Fail;
 
-// Runs a script from pieces, into a sink that keeps four bytes of a failing piece, with a failing pull and a failing push:
-// the status, a `|` and what is written; then, where it is asked for, a `|` and what the source still has.
-fn run(
+/// Runs a script from pieces of so many bytes, into a sink that keeps four bytes of a failing piece: the status, a `|` and
+/// what is written. So many `!` and then `#` stand ahead as the number of the pull and of the push that fails; where any do,
+/// a `|` and what the source still has follow.
+pub(crate) fn served(
     alloc: Global,
-    script: &[u8],
+    out: &mut Out<'_>,
+    text: &[u8],
     piece: usize,
-    fails: (u64, u64),
-    rest: bool,
-) -> Result<Vec<u8>, NoMemory>
-    requires { 1 ≤ piece }
-{
-    let bytes = Vec::from_slice(alloc, script)?;
-    let (pull, push) = fails;
-    let mut source = MemorySource::new(bytes, piece, Vec::from_slice(alloc, &[pull])?);
-    let mut sink = MemorySink::new(alloc, 4096, 4, Vec::from_slice(alloc, &[push])?)?;
-    let status = hack_main(alloc, &[], &mut source, &mut sink);
-    let number = status.number();
-    let mut shown = format!(in alloc; "{number} {status}|")?.into_bytes();
-    shown.extend_from_slice(sink.bytes())?;
-    if rest {
-        shown.push(b'|')?;
-        push_left(&mut shown, &mut source)?;
+) -> Result<(), NoMemory> {
+    let (pull, rest) = ahead(text, b'!');
+    let (push, script) = ahead(rest, b'#');
+    let mut source = source_of(alloc, script, piece, &[pull])?;
+    let done = serve(alloc, out, &mut source, push);
+    if pull > 0 || push > 0 {
+        out.push(b"|");
+        push_left(out, &mut source);
     }
-    Ok(shown)
+    drop(source);
+    done
+}
+
+fn serve(
+    alloc: Global,
+    out: &mut Out<'_>,
+    source: &mut MemorySource,
+    push: u64,
+) -> Result<(), NoMemory> {
+    let mut sink = sink_of(alloc, 4096, 4, &[push])?;
+    let status = hack_main(alloc, &[], source, &mut sink);
+    show_status(alloc, out, status);
+    out.push(b"|");
+    out.push(sink.bytes());
+    drop(sink);
+    Ok(())
+}
+
+fn show_status(alloc: Global, out: &mut Out<'_>, status: Status) {
+    out.number(status.number() as u64);
+    match format!(in alloc; " {status}") {
+        Ok(text) => out.push(text.as_bytes()),
+        Err(_) => out.push(b"no memory"),
+    }
 }
 
 // Adds what a source still has.
-fn push_left(shown: &mut Vec<u8>, source: &mut MemorySource) -> Result<(), NoMemory> {
+fn push_left(out: &mut Out<'_>, source: &mut MemorySource) {
     for _ in 0..1000u32 {
         let mut into = [0u8; 64];
         match source.pull(&mut into) {
-            Ok(count) if count > 0 => shown.extend_from_slice(&into[..count])?,
-            _ => return Ok(()),
+            Ok(count) if count > 0 => out.push(&into[..count]),
+            _ => return,
         }
     }
-    Ok(())
 }
 
-pub(crate) fn served(alloc: Global, script: &[u8]) -> Result<Vec<u8>, NoMemoryHere> {
-    let shown = here(run(alloc, script, 1, (0, 0), false))?;
-    let other = here(run(alloc, script, 7, (0, 0), false))?;
-    let third = here(run(alloc, script, 4096, (0, 0), false))?;
-    if other != shown || third != shown {
-        return Ok(Vec::from_slice(alloc, b"pieces count")?);
-    }
-    Ok(shown)
-}
-
-pub(crate) fn stopped(alloc: Global, text: &[u8]) -> Result<Vec<u8>, NoMemoryHere> {
-    let (pull, rest) = ahead(text, b'!');
-    let (push, script) = ahead(rest, b'#');
-    here(run(alloc, script, 1, (pull, push), true))
-}
-
-#[test]
-fn scripts_get_their_replies_one_by_one(rt: HostRuntime) -> Result<(), Fail> {
-    let found = run_rows(rt.alloc(), Table::Served)?;
-    assert_eq!(rt; found.as_str(), "4 rows");
-    let found = run_rows(rt.alloc(), Table::Stopped)?;
-    assert_eq!(rt; found.as_str(), "13 rows");
-    Ok(())
-}
-
-// The lines are those of docs/script.md, Statuses.
-#[test]
-fn a_status_has_its_number_and_its_line(rt: HostRuntime) -> Result<(), Fail> {
-    let cases = [
-        (Status::Done, 0, ""),
-        (Status::BadScript { line: 12 }, 3, "bad script at line 12"),
-        (Status::ReadFault, 4, "read fault"),
-        (Status::WriteFault, 5, "write fault"),
-        (Status::TooLong, 9, "script too long"),
-        (Status::NotBuilt, 10, "not built"),
-        (Status::NoMemory, 71, "no memory"),
-    ];
-    for (status, number, line) in cases {
-        assert_eq!(rt; status.number(), number);
-        let text = format!(in rt.alloc(); "{status}")?;
-        assert_eq!(rt; text.as_str(), line);
-    }
+/// The number and the line of a status by its letter.
+pub(crate) fn status(alloc: Global, out: &mut Out<'_>, text: &[u8]) -> Result<(), NoMemory> {
+    let status = match text.first() {
+        Some(b'd') => Status::Done,
+        Some(b's') => Status::BadScript { line: 12 },
+        Some(b'r') => Status::ReadFault,
+        Some(b'w') => Status::WriteFault,
+        Some(b't') => Status::TooLong,
+        Some(b'b') => Status::NotBuilt,
+        _ => Status::NoMemory,
+    };
+    show_status(alloc, out, status);
     Ok(())
 }

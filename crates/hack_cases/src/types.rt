@@ -1,87 +1,101 @@
-// Types, names and symbols. A type is that of a declaration: what an alias stands for, what a function returns, or a
+// Names, symbols and types. A type is that of a declaration: what an alias stands for, what a function returns, or a
 // constant's.
 
-use crate::parse::read;
-use crate::plain::{plain, split};
-use crate::rows::types::DIFFERENT;
-use crate::run::{Table, run_rows};
+use crate::plain::{nth, split};
+use crate::run::Table;
 use hack_shallow::shallow_of;
+use hack_show::{Out, show_type};
 use hack_tree::Unit;
 use hack_types::{
-    HackType, Kind, NameId, Names, NoMemory, Shallow, SymbolId, into_option, option_of,
+    HackType, Kind, NameId, Names, NoMemory, Shallow, SubstStop, SymbolId, into_option, option_of,
+    substitute, union_of,
 };
 use sqlite_items::Items;
 use std::alloc::Global;
-use std::test::Fail;
 
 // The type of a declaration, where it has one.
-fn type_of(alloc: Global, shallow: &Shallow) -> Result<Option<HackType>, NoMemory> {
+fn type_of(shallow: &Shallow) -> Option<&HackType> {
     match shallow {
-        Shallow::Alias(alias) => Ok(Some(alias.body.copy(alloc)?)),
-        Shallow::Function(signature) => Ok(Some(signature.result.copy(alloc)?)),
-        Shallow::Constant(ty) => Ok(Some(ty.copy(alloc)?)),
-        _ => Ok(None),
+        Shallow::Alias(alias) => Some(&alias.body),
+        Shallow::Function(signature) => Some(&signature.result),
+        Shallow::Constant(ty) => Some(ty),
+        _ => None,
     }
 }
 
-// The type of each declaration.
-fn types_of(alloc: Global, text: &[u8]) -> Result<Vec<HackType>, NoMemory> {
-    let mut names = Names::new(alloc);
-    let tree = read(alloc, &mut names, text);
-    drop(names);
-    let tree = tree?;
-    let types = match &tree {
-        Some(tree) => types_in(alloc, tree.units.as_slice()),
-        None => Ok(Vec::new(alloc)),
-    };
-    drop(tree);
-    types
-}
-
-fn types_in(alloc: Global, units: &[Unit]) -> Result<Vec<HackType>, NoMemory> {
-    let mut types = Vec::new(alloc);
+// Adds the type of each declaration.
+fn add_all(alloc: Global, units: &[Unit], types: &mut Vec<HackType>) -> Result<(), NoMemory> {
     for unit in units {
-        add_type(alloc, unit, &mut types)?;
+        let shallow = shallow_of(alloc, unit)?;
+        let done = add_type(alloc, &shallow, types);
+        drop(shallow);
+        done?;
     }
-    Ok(types)
+    Ok(())
 }
 
-fn add_type(alloc: Global, unit: &Unit, types: &mut Vec<HackType>) -> Result<(), NoMemory> {
-    let shallow = shallow_of(alloc, unit)?;
-    let ty = type_of(alloc, &shallow);
-    drop(shallow);
-    match ty? {
-        Some(ty) => Ok(types.push(ty)?),
+fn add_type(alloc: Global, shallow: &Shallow, types: &mut Vec<HackType>) -> Result<(), NoMemory> {
+    match type_of(shallow) {
+        Some(ty) => Ok(types.push(ty.copy(alloc)?)?),
         None => Ok(()),
     }
 }
 
-/// Whether the second type is the option of the first, made of it and of a copy of it, and its own option.
-pub(crate) fn optional(alloc: Global, text: &[u8]) -> Result<Vec<u8>, NoMemory> {
-    let types = types_of(alloc, text)?;
-    let shown = match types.as_slice() {
-        [ty, wanted] => options(alloc, ty, wanted),
-        _ => Ok(Vec::new(alloc)),
-    };
+/// Shows what a table asks of the types of declarations.
+pub(crate) fn asked(
+    alloc: Global,
+    table: Table,
+    out: &mut Out<'_>,
+    units: &[Unit],
+) -> Result<(), NoMemory> {
+    let mut types = Vec::new(alloc);
+    let done = add_all(alloc, units, &mut types);
+    let shown = show(alloc, table, out, types.as_slice());
     drop(types);
+    done?;
     shown
 }
 
-fn options(alloc: Global, ty: &HackType, wanted: &HackType) -> Result<Vec<u8>, NoMemory> {
-    let mut out = Vec::new(alloc);
-    if is_same(option_of(alloc, ty), wanted)? {
-        out.extend_from_slice(b"its option")?;
+fn show(
+    alloc: Global,
+    table: Table,
+    out: &mut Out<'_>,
+    types: &[HackType],
+) -> Result<(), NoMemory> {
+    match table {
+        Table::Joins => show_made(out, union_of(alloc, types)),
+        Table::Options => options(alloc, out, types),
+        Table::PutIn => put_in(alloc, out, types),
+        _ => nodes(out, types),
     }
-    if is_same(option_made_of(alloc, ty), wanted)? {
-        out.extend_from_slice(b", made of it")?;
+}
+
+fn show_made(out: &mut Out<'_>, made: Result<HackType, NoMemory>) -> Result<(), NoMemory> {
+    let ty = made?;
+    show_type(out, &ty);
+    drop(ty);
+    Ok(())
+}
+
+// Whether the second type is the option of the first, made of it and of a copy of it, and its own option.
+fn options(alloc: Global, out: &mut Out<'_>, types: &[HackType]) -> Result<(), NoMemory> {
+    let [ty, wanted] = types else {
+        return Ok(());
+    };
+    let is_option = is_same(option_of(alloc, ty), wanted)?;
+    let is_made = is_same(option_made_of(alloc, ty), wanted)?;
+    let is_own = is_same(option_of(alloc, wanted), wanted)?;
+    for (holds, words) in [
+        (is_option, "its option"),
+        (is_made, ", made of it"),
+        (is_own, ", once"),
+        (!is_option && !is_made && !is_own, "-"),
+    ] {
+        if holds {
+            out.push(words.as_bytes());
+        }
     }
-    if is_same(option_of(alloc, wanted), wanted)? {
-        out.extend_from_slice(b", once")?;
-    }
-    if out.is_empty() {
-        out.push(b'-')?;
-    }
-    Ok(out)
+    Ok(())
 }
 
 fn option_made_of(alloc: Global, ty: &HackType) -> Result<HackType, NoMemory> {
@@ -95,99 +109,81 @@ fn is_same(found: Result<HackType, NoMemory>, wanted: &HackType) -> Result<bool,
     Ok(same)
 }
 
-/// How many nodes the type has.
-pub(crate) fn nodes(alloc: Global, text: &[u8]) -> Result<Vec<u8>, NoMemory> {
-    let types = types_of(alloc, text)?;
-    let shown = match types.first() {
-        Some(ty) => node_count(alloc, ty),
-        None => Ok(Vec::new(alloc)),
+// The first type with the others in the place of its class parameters.
+fn put_in(alloc: Global, out: &mut Out<'_>, types: &[HackType]) -> Result<(), NoMemory> {
+    let [ty, arguments @ ..] = types else {
+        return Ok(());
     };
-    drop(types);
-    shown
+    match substitute(alloc, ty, arguments) {
+        Ok(ty) => {
+            show_type(out, &ty);
+            drop(ty);
+        }
+        Err(SubstStop::TooBig) => out.word("too big"),
+        Err(SubstStop::NoMemory) => out.word("no memory"),
+    }
+    Ok(())
 }
 
-fn node_count(alloc: Global, ty: &HackType) -> Result<Vec<u8>, NoMemory> {
+// How many nodes the first type has.
+fn nodes(out: &mut Out<'_>, types: &[HackType]) -> Result<(), NoMemory> {
+    let Some(ty) = types.first() else {
+        return Ok(());
+    };
     for limit in 0..300u32 {
         if ty.is_within(limit) {
-            return Ok(format!(in alloc; "{limit}")?.into_bytes());
+            out.number(limit as u64);
+            return Ok(());
         }
     }
-    Ok(Vec::new(alloc))
+    Ok(())
 }
 
-/// The id of each name, and then how many names there are.
-pub(crate) fn interned(alloc: Global, text: &[u8]) -> Result<Vec<u8>, NoMemory> {
-    let mut names = Names::new(alloc);
-    let mut out = Vec::new(alloc);
-    let mut rest = text;
-    for _ in 0..text.len() {
-        if rest.is_empty() {
-            break;
+/// How many types there are, where each equals itself made once more and no other; else the places of the two.
+pub(crate) fn different(alloc: Global, out: &mut Out<'_>, units: &[Unit]) -> Result<(), NoMemory> {
+    let mut types = Vec::new(alloc);
+    let mut again = Vec::new(alloc);
+    let done = add_with_unions(alloc, units, &mut types);
+    let done_again = add_with_unions(alloc, units, &mut again);
+    compare(out, types.as_slice(), again.as_slice());
+    drop(types);
+    drop(again);
+    done?;
+    done_again
+}
+
+fn compare(out: &mut Out<'_>, types: &[HackType], again: &[HackType]) {
+    for (place, ty) in types.iter().enumerate() {
+        for (other_place, other) in again.iter().enumerate() {
+            if ty.same(other) != (place == other_place) {
+                out.number(place as u64);
+                out.number(other_place as u64);
+            }
         }
-        let (word, behind) = split(rest, b',');
-        add_id(alloc, &mut names, word, &mut out)?;
-        rest = behind;
     }
-    let count = names.count();
-    drop(names);
-    push_text(&mut out, format!(in alloc; "of {count}")?)?;
-    Ok(out)
+    out.number(types.len() as u64);
+    out.number(again.len() as u64);
 }
 
-fn add_id(
+// The types of declarations, and `()`, `(int)`, `(string)`, `(int|string)` and `(string|int)`, which no text of a type is.
+fn add_with_unions(
     alloc: Global,
-    names: &mut Names,
-    word: &[u8],
-    out: &mut Vec<u8>,
+    units: &[Unit],
+    types: &mut Vec<HackType>,
 ) -> Result<(), NoMemory> {
-    if names.count() >= 100 {
-        return Ok(());
-    }
-    let id = names.intern(alloc, word)?;
-    let number = id.number();
-    push_text(out, format!(in alloc; "{number} ")?)?;
-    if names.text_of(id) != word {
-        out.extend_from_slice(b"of another text ")?;
-    }
-    Ok(())
-}
-
-fn push_text(out: &mut Vec<u8>, text: String) -> Result<(), NoMemory> {
-    let done = out.extend_from_slice(text.as_bytes());
-    drop(text);
-    Ok(done?)
-}
-
-#[test]
-fn an_option_has_null_once(rt: HostRuntime) -> Result<(), Fail> {
-    let found = run_rows(rt.alloc(), Table::Options)?;
-    assert_eq!(rt; found.as_str(), "13 rows");
-    Ok(())
-}
-
-#[test]
-fn each_constructor_is_a_node(rt: HostRuntime) -> Result<(), Fail> {
-    let found = run_rows(rt.alloc(), Table::Nodes)?;
-    assert_eq!(rt; found.as_str(), "5 rows");
-    Ok(())
-}
-
-#[test]
-fn a_text_has_one_id_and_the_fixed_names_the_first(rt: HostRuntime) -> Result<(), Fail> {
-    let found = run_rows(rt.alloc(), Table::Names)?;
-    assert_eq!(rt; found.as_str(), "2 rows");
-    Ok(())
-}
-
-// `()`, `(int)`, `(string)`, `(int|string)` and `(string|int)`, which no text of a type is.
-fn add_unions(alloc: Global, types: &mut Vec<HackType>) -> Result<(), NoMemory> {
+    add_all(alloc, units, types)?;
     for (first, second) in [(0, 0), (1, 0), (2, 0), (1, 2), (2, 1)] {
         let mut members = Items::new(alloc);
-        add_member(&mut members, first)?;
-        add_member(&mut members, second)?;
+        let done = add_members(&mut members, first, second);
         types.push(HackType::Union(members))?;
+        done?;
     }
     Ok(())
+}
+
+fn add_members(members: &mut Items<HackType>, first: u32, second: u32) -> Result<(), NoMemory> {
+    add_member(members, first)?;
+    add_member(members, second)
 }
 
 fn add_member(members: &mut Items<HackType>, number: u32) -> Result<(), NoMemory> {
@@ -198,34 +194,65 @@ fn add_member(members: &mut Items<HackType>, number: u32) -> Result<(), NoMemory
     }
 }
 
-#[test]
-fn a_type_equals_itself_made_once_more_and_no_other(rt: HostRuntime) -> Result<(), Fail> {
-    let alloc = rt.alloc();
-    let text = plain(alloc, DIFFERENT)?;
-    let mut types = types_of(alloc, &text)?;
-    let mut again = types_of(alloc, &text)?;
-    add_unions(alloc, &mut types)?;
-    add_unions(alloc, &mut again)?;
-    assert_eq!(rt; types.len(), 70);
-    for (place, ty) in types.iter().enumerate() {
-        for (other_place, other) in again.iter().enumerate() {
-            assert!(rt;
-                ty.same(other) == (place == other_place),
-                "{place} and {other_place}"
-            );
+/// The id of each name, and then how many names there are.
+pub(crate) fn interned(alloc: Global, out: &mut Out<'_>, text: &[u8]) -> Result<(), NoMemory> {
+    let mut names = Names::new(alloc);
+    let done = add_names(alloc, &mut names, out, text);
+    out.word("of");
+    out.number(names.count() as u64);
+    drop(names);
+    done
+}
+
+fn add_names(
+    alloc: Global,
+    names: &mut Names,
+    out: &mut Out<'_>,
+    text: &[u8],
+) -> Result<(), NoMemory> {
+    let mut rest = text;
+    for _ in 0..text.len() {
+        if rest.is_empty() {
+            break;
         }
+        let (word, behind) = split(rest, b',');
+        add_name(alloc, names, out, word)?;
+        rest = behind;
     }
     Ok(())
 }
 
-// By kind and then by id: the order of symbols is written nowhere else.
-#[test]
-fn symbols_are_ordered_by_kind_and_then_by_id(rt: HostRuntime) {
-    let symbol = |kind, number| SymbolId {
-        kind,
-        name: NameId::new(number),
+fn add_name(
+    alloc: Global,
+    names: &mut Names,
+    out: &mut Out<'_>,
+    word: &[u8],
+) -> Result<(), NoMemory> {
+    if names.count() >= 100 {
+        return Ok(());
+    }
+    let id = names.intern(alloc, word)?;
+    out.number(id.number() as u64);
+    if names.text_of(id) != word {
+        out.word("of another text");
+    }
+    Ok(())
+}
+
+/// The symbol that a text `KIND NUMBER` names.
+pub(crate) fn symbol(text: &[u8]) -> SymbolId {
+    let kind = match text.get(1) {
+        Some(b'l') => Kind::Class,
+        Some(b'u') => Kind::Func,
+        _ => Kind::Const,
     };
-    assert!(rt; symbol(Kind::Class, 9) < symbol(Kind::Func, 1));
-    assert!(rt; symbol(Kind::Func, 9) < symbol(Kind::Const, 1));
-    assert!(rt; symbol(Kind::Func, 1) < symbol(Kind::Func, 2));
+    symbol_of(kind, u32::try_from(nth(text, 1)).unwrap_or(0))
+}
+
+/// The symbol of this kind and number, which is 9 at most.
+pub(crate) fn symbol_of(kind: Kind, number: u32) -> SymbolId {
+    SymbolId {
+        kind,
+        name: NameId::new(number.min(9)),
+    }
 }

@@ -1,6 +1,7 @@
 // Each answer was worked out by hand from docs/language.md, Subtyping, in the order of the rules: for each one pair that is below and
 // one that fails by a hair. A row has declarations, of which the last is a function that takes the lower type, or the members of a
-// union, and returns the upper one, or a class with such a method.
+// union, and returns the upper one, or a class with such a method. Where a container may stand below a name, the declarations of the
+// builtin text that the rule on containers needs are among them.
 
 /// Declarations, and whether the lower type is below the upper one.
 pub(crate) const BELOW: &str = r#"
@@ -40,13 +41,13 @@ function f(int $s, ?float $t): ?num { return $s; } ¦ below
 function f(vec<int> $s): vec<num> { return $s; } ¦ below
 function f(vec<num> $s): vec<int> { return $s; } ¦ not
 function f(vec<int> $s): keyset<int> { return $s; } ¦ not
-function f(dict<string, int> $s): KeyedContainer<arraykey, num> { return $s; } ¦ below
-function f(dict<string, int> $s): KeyedContainer<int, num> { return $s; } ¦ not
-function f(keyset<string> $s): Traversable<arraykey> { return $s; } ¦ below
-function f(vec<int> $s): Container<int> { return $s; } ¦ below
-function f(shape() $s): Container<int> { return $s; } ¦ not
+interface Traversable<+Tv> {} interface KeyedTraversable<+Tk, +Tv> extends Traversable<Tv> {} interface Container<+Tv> extends Traversable<Tv> {} interface KeyedContainer<+Tk as arraykey, +Tv> extends Container<Tv>, KeyedTraversable<Tk, Tv> {} function f(dict<string, int> $s): KeyedContainer<arraykey, num> { return $s; } ¦ below
+interface Traversable<+Tv> {} interface KeyedTraversable<+Tk, +Tv> extends Traversable<Tv> {} interface Container<+Tv> extends Traversable<Tv> {} interface KeyedContainer<+Tk as arraykey, +Tv> extends Container<Tv>, KeyedTraversable<Tk, Tv> {} function f(dict<string, int> $s): KeyedContainer<int, num> { return $s; } ¦ not
+interface Traversable<+Tv> {} interface KeyedTraversable<+Tk, +Tv> extends Traversable<Tv> {} interface Container<+Tv> extends Traversable<Tv> {} interface KeyedContainer<+Tk as arraykey, +Tv> extends Container<Tv>, KeyedTraversable<Tk, Tv> {} function f(keyset<string> $s): Traversable<arraykey> { return $s; } ¦ below
+interface Traversable<+Tv> {} interface KeyedTraversable<+Tk, +Tv> extends Traversable<Tv> {} interface Container<+Tv> extends Traversable<Tv> {} interface KeyedContainer<+Tk as arraykey, +Tv> extends Container<Tv>, KeyedTraversable<Tk, Tv> {} function f(vec<int> $s): Container<int> { return $s; } ¦ below
+interface Traversable<+Tv> {} interface KeyedTraversable<+Tk, +Tv> extends Traversable<Tv> {} interface Container<+Tv> extends Traversable<Tv> {} interface KeyedContainer<+Tk as arraykey, +Tv> extends Container<Tv>, KeyedTraversable<Tk, Tv> {} function f(shape() $s): Container<int> { return $s; } ¦ not
 type A<T> = B<T>; type B<T> = vec<T>; function f(A<int> $s): vec<num> { return $s; } ¦ below
-type A<T> = B<T>; type B<T> = vec<T>; function f(vec<num> $s): A<int> { return $s; } ¦ not
+interface Traversable<+Tv> {} interface KeyedTraversable<+Tk, +Tv> extends Traversable<Tv> {} interface Container<+Tv> extends Traversable<Tv> {} interface KeyedContainer<+Tk as arraykey, +Tv> extends Container<Tv>, KeyedTraversable<Tk, Tv> {} type A<T> = B<T>; type B<T> = vec<T>; function f(vec<num> $s): A<int> { return $s; } ¦ not
 function f(shape('a' => int) $s): shape('a' => num, ?'b' => int) { return $s; } ¦ below
 function f(shape('a' => int, ...) $s): shape('a' => num, ?'b' => int, ...) { return $s; } ¦ not
 function f(shape(?'a' => int) $s): shape('a' => int) { return $s; } ¦ not

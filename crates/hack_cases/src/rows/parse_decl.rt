@@ -1,8 +1,9 @@
 // Every answer was worked out by hand from the rules of the grammar, and then held against two other programs; none was taken
 // from this one (docs/definitions.md, Trees).
 
-/// Files and how many declarations they have, or their faults.
-pub(crate) const FAULTS: &str = r#"
+/// Files and how many declarations they have, or their faults. In the last rows what is counted as nesting stops at its limit, and
+/// what is a list is long.
+pub(crate) const FILES: &str = r#"
 type A =\n?int; ¦ ok 1
 type A =\n? ?int; ¦ ok 1
 type A =\n??int; ¦ 1002 2:1
@@ -354,10 +355,6 @@ interface I { function newtype(); } ¦ ok 1
 trait class {} ¦ 1002 1:7
 enum type: int {} ¦ 1002 1:6
 interface type {} ¦ 1002 1:11
-"#;
-
-/// What is counted as nesting stops at its limit, and what is a list may be long.
-pub(crate) const LONG: &str = r#"
 const int C = $a\*2000«+1»; ¦ ok 1
 const int C = $a\*2000«**1»; ¦ ok 1
 const int C = $a\*2000«??1»; ¦ ok 1

@@ -45,14 +45,14 @@ drop a:b\n ¦ bad 1
 end ¦ bad 1
 "#;
 
-/// Names of 255 bytes and more, and bodies up to the limit and above it, and the end of the outline.
+/// Names of 255 bytes and more, and bodies up to the limit and above it.
 pub(crate) const LIMITS: &str = r#"
-file \*255«n» 1\nb\n\n ¦ nn=b;end
+file \*255«n» 1\nb\n\n ¦ file \*255«n»=b;end
 file \*256«n» 1\nb\n\n ¦ bad 1
 file \*295«n» 1\nb\n\n ¦ bad 1
 file \*400«n» 1\nb\n\n ¦ bad 1
-file \*255«n» 70000\n\*4375«bbbbbbbbbbbbbbbb»\n\n ¦ bbbb;end
-file \*255«n» 1048576\n\*65536«bbbbbbbbbbbbbbbb»\n\n ¦ bbbb;end
+file \*255«n» 70000\n\*4375«bbbbbbbbbbbbbbbb»\n\n ¦ file \*255«n»=\*4375«bbbbbbbbbbbbbbbb»;end
+file \*255«n» 1048576\n\*65536«bbbbbbbbbbbbbbbb»\n\n ¦ file \*255«n»=\*65536«bbbbbbbbbbbbbbbb»;end
 file \*255«n» 1048577\n\*65536«bbbbbbbbbbbbbbbb»b\n\n ¦ bad 1
 "#;
 
@@ -71,4 +71,12 @@ pub(crate) const FAULTS: &str = r#"
 !!!!!!!!!!!!!!!check\nfile a 4\nabcd\ncheck ¦ check;file a=abcd;check;end
 \*151«!»\*300«x» ¦ fault
 \*152«!»\*301«x» ¦ bad 1
+"#;
+
+/// Replies and their bytes.
+pub(crate) const REPLIES: &str = r#"
+edit 12 ¦ edit 12\n
+no file ¦ no file\n
+report 3 ¦ check 3 errors 0\n
+cancelled 4 ¦ check 4 cancelled\n
 "#;

@@ -27,3 +27,14 @@ pub(crate) const STOPPED: &str = r#"
 \*7«!»check\ncheck\n ¦ 4 read fault|check 1 errors 0\n|check\n
 \*13«!»check\ncheck\n ¦ 4 read fault|check 1 errors 0\ncheck 2 errors 0\n|
 "#;
+
+/// Statuses by their letters, their numbers and their lines, of docs/script.md, Statuses.
+pub(crate) const STATUSES: &str = r#"
+done ¦ 0\x20
+script ¦ 3 bad script at line 12
+read ¦ 4 read fault
+write ¦ 5 write fault
+too long ¦ 9 script too long
+built ¦ 10 not built
+memory ¦ 71 no memory
+"#;

@@ -27,3 +27,9 @@ a b c ¦ none
  ¦ none
 \x20 ¦ none
 "#;
+
+/// Texts, whether they make a table of no words, and that no cases make one.
+pub(crate) const NO_WORDS: &str = r#"
+ ¦ a table a table
+\x20 ¦ none a table
+"#;
