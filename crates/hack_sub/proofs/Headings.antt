@@ -17,7 +17,7 @@ use Rattle.hack_decls.specs.declared.answers.HeadingAnswer.TheVariants as headin
 use Rattle.hack_decls.specs.declared.folded.Ancestor.{Ancestor}
 use Rattle.hack_decls.specs.declared.folded.Folded.{Folded}
 use Rattle.hack_decls.specs.declared.folded.Folded.TheVariants as folded
-use Rattle.hack_sub.proofs.NamesPut.{in_put, in_put_all}
+use Rattle.hack_sub.specs.NamesPut.{in_put, in_put_all}
 use Rattle.hack_sub.specs.inside.Calls.{body_in, given_in, known_heading, params_in}
 use Rattle.hack_sub.specs.IsBelow.{all_small, is_small, small_only}
 use Rattle.hack_sub.specs.Knowing.{ancestor_by, expanded_by, known_by, parameters_by}

@@ -7,8 +7,6 @@ pub mod Heights
 pub mod Lists
 pub mod Looks
 pub mod Loops
-pub mod NamesOf
-pub mod NamesPut
 pub mod NamesScope
 pub mod Params
 pub mod Tells

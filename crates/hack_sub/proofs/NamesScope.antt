@@ -14,7 +14,7 @@ use Rattle.hack_types.specs.declared.signature.TypeParam.{TypeParam}
 use Rattle.hack_decls.specs.DeclState.{Symbols}
 use Rattle.hack_decls.specs.NameLaws.{back, front}
 use Rattle.hack_decls.specs.Names.{TypeIn, class_symbol, symbols_by, symbols_in, types_of_param}
-use Rattle.hack_sub.proofs.NamesOf.{alone, nothing_there, of_class}
+use Rattle.hack_sub.specs.NamesOf.{alone, nothing_there, of_class}
 use Rattle.hack_sub.specs.Scopes.{ScopeIn, class_params_by, own_params, param_by, param_of}
 use Rattle.hack_sub.specs.IsBelow.{class_type_by, class_type_small}
 use Rattle.hack_sub.specs.declared.scope.Scope.{Scope}

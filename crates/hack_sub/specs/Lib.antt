@@ -2,6 +2,8 @@ pub mod Derives
 pub mod IsBelow
 pub mod Knowing
 pub mod Named
+pub mod NamesOf
+pub mod NamesPut
 pub mod Parts
 pub mod Rules
 pub mod Scopes

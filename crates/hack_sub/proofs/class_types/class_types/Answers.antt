@@ -1,6 +1,6 @@
 use Rattle.std.proofs.Common.{◌≡◌, ◌∙◌, All, sym, ap, subst}
 use Rattle.hack_decls.specs.Names.{TypeIn}
-use Rattle.hack_sub.proofs.NamesOf.{in_class}
+use Rattle.hack_sub.specs.NamesOf.{in_class}
 use Rattle.hack_sub.proofs.Tells.{told, told_under}
 use Rattle.hack_sub.specs.IsBelow.{class_names, is_below, some_and}
 use Rattle.hack_sub.specs.Parts.{arguments_of, name_of}

@@ -2,7 +2,7 @@ use Rattle.std.proofs.Common.{◌∙◌, ◌+◌, ◌<◌, ◌≤◌, true, drop
 use Rattle.hack_decls.specs.DeclState.{Map}
 use Rattle.hack_sub.proofs.FitLaws.{fit_left, fit_stepped}
 use Rattle.hack_sub.proofs.Loops.{ended, went_on}
-use Rattle.hack_sub.proofs.NamesOf.{in_list}
+use Rattle.hack_sub.specs.NamesOf.{in_list}
 use Rattle.hack_sub.specs.IsBelow.{fit, is_below}
 use Rattle.hack_sub.proofs.class_types.fit_each.Goals as goal
 

@@ -1,6 +1,6 @@
 use Rattle.std.proofs.Common.{◌≡◌, ◌∙◌, false, Some, All, sym, ap, subst}
 use Rattle.hack_decls.specs.Names.{TypeIn}
-use Rattle.hack_sub.proofs.NamesOf.{many_given}
+use Rattle.hack_sub.specs.NamesOf.{many_given}
 use Rattle.hack_sub.proofs.Tells.{gone_on, settled}
 use Rattle.hack_sub.specs.IsBelow.{ancestor_given, fit, is_below, some_and}
 use Rattle.hack_sub.specs.Knowing.{parameters}

@@ -1,7 +1,7 @@
 use Rattle.std.proofs.Common.{◌&&◌}
 use Rattle.hack_types.specs.declared.hack_type.HackType.{HackType}
 use Rattle.hack_decls.specs.DeclState.{Map}
-use Rattle.hack_sub.proofs.NamesOf.{in_dict}
+use Rattle.hack_sub.specs.NamesOf.{in_dict}
 use Rattle.hack_sub.proofs.Tells.{told_under}
 use Rattle.hack_sub.specs.IsBelow.{is_below, some_and}
 use Rattle.hack_sub.specs.Parts.{dict_parts}

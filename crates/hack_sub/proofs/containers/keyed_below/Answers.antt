@@ -1,5 +1,5 @@
 use Rattle.std.proofs.Common.{◌≡◌, ◌∙◌, Some, sym}
-use Rattle.hack_sub.proofs.NamesOf.{in_keyed}
+use Rattle.hack_sub.specs.NamesOf.{in_keyed}
 use Rattle.hack_sub.proofs.Tells.{told_under}
 use Rattle.hack_sub.specs.IsBelow.{is_below}
 use Rattle.hack_sub.specs.Parts.{as_keyed}

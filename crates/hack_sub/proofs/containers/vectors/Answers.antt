@@ -1,4 +1,4 @@
-use Rattle.hack_sub.proofs.NamesOf.{in_vector}
+use Rattle.hack_sub.specs.NamesOf.{in_vector}
 use Rattle.hack_sub.proofs.Tells.{told_under}
 use Rattle.hack_sub.specs.IsBelow.{is_below, some_and}
 use Rattle.hack_sub.specs.Parts.{vector_item}

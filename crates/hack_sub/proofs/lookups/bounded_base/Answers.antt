@@ -1,7 +1,7 @@
 use Rattle.std.proofs.Common.{◌≡◌, ◌∙◌, ℕ, length, ap}
 use Rattle.std.specs.Option.{option_and_then}
 use Rattle.hack_decls.specs.Names.{class_symbol}
-use Rattle.hack_sub.proofs.NamesOf.{in_class}
+use Rattle.hack_sub.specs.NamesOf.{in_class}
 use Rattle.hack_sub.proofs.Tells.{restated}
 use Rattle.hack_sub.specs.IsBelow.{bound_of}
 use Rattle.hack_sub.specs.Knowing.{enum_by}

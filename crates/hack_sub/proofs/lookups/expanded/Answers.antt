@@ -1,7 +1,7 @@
 use Rattle.std.proofs.Common.{◌≡◌, ◌∙◌, All, sym, ap, subst}
 use Rattle.std.specs.Option.{option_and_then}
 use Rattle.hack_decls.specs.Names.{TypeIn, class_symbol}
-use Rattle.hack_sub.proofs.NamesOf.{in_class}
+use Rattle.hack_sub.specs.NamesOf.{in_class}
 use Rattle.hack_sub.proofs.Tells.{restated}
 use Rattle.hack_sub.specs.IsBelow.{small_only}
 use Rattle.hack_sub.specs.Knowing.{expanded_by}

@@ -1,6 +1,6 @@
 use Rattle.std.proofs.Common.{◌≡◌, ◌∙◌, ℕ, length, ap}
 use Rattle.hack_decls.specs.Names.{class_symbol}
-use Rattle.hack_sub.proofs.NamesOf.{in_class}
+use Rattle.hack_sub.specs.NamesOf.{in_class}
 use Rattle.hack_sub.proofs.Tells.{restated}
 use Rattle.hack_sub.specs.Knowing.{known_as, known_by}
 use Rattle.hack_sub.specs.Parts.{arguments_of}

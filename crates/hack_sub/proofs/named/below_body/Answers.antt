@@ -1,5 +1,5 @@
 use Rattle.std.proofs.Common.{◌≡◌, ◌∙◌, Some, sym, ap}
-use Rattle.hack_sub.proofs.NamesOf.{given_in}
+use Rattle.hack_sub.specs.NamesOf.{given_in}
 use Rattle.hack_sub.proofs.Tells.{gone_on}
 use Rattle.hack_sub.specs.IsBelow.{expanded_small, is_below, some_and}
 use Rattle.hack_sub.proofs.named.below_body.Goals as goal

@@ -2,7 +2,7 @@ use Rattle.std.proofs.Common.{◌||◌, ◌∙◌, true, sym, ap}
 use Rattle.std.proofs.lemmas.Result.{err_from_is_err_and}
 use Rattle.hack_types.specs.declared.hack_type.HackType.TheVariants as type
 use Rattle.hack_decls.specs.AskLaws.{failed}
-use Rattle.hack_sub.proofs.NamesOf.{of_arraykey}
+use Rattle.hack_sub.specs.NamesOf.{of_arraykey}
 use Rattle.hack_sub.proofs.Tells.{gone_on, settled}
 use Rattle.hack_sub.specs.IsBelow.{bounded_base, is_below, some_and}
 use Rattle.hack_sub.proofs.named.key_or_base.Goals as goal

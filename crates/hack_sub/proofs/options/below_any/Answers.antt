@@ -3,7 +3,7 @@ use Rattle.std.specs.List.{list_any}
 use Rattle.hack_types.specs.declared.hack_type.HackType.{HackType}
 use Rattle.hack_decls.specs.DeclState.{Map}
 use Rattle.hack_sub.proofs.Loops.{none_left, any_failed, ended, went_on}
-use Rattle.hack_sub.proofs.NamesOf.{in_list}
+use Rattle.hack_sub.specs.NamesOf.{in_list}
 use Rattle.hack_sub.specs.IsBelow.{is_below}
 use Rattle.hack_sub.proofs.options.below_any.Goals as goal
 

@@ -1,6 +1,6 @@
 use Rattle.std.proofs.Common.{◌&&◌}
 use Rattle.hack_types.specs.declared.hack_type.HackType.TheVariants as type
-use Rattle.hack_sub.proofs.NamesOf.{in_option, of_null}
+use Rattle.hack_sub.specs.NamesOf.{in_option, of_null}
 use Rattle.hack_sub.proofs.Tells.{told_under}
 use Rattle.hack_sub.specs.IsBelow.{is_below}
 use Rattle.hack_sub.specs.Parts.{option_inside}

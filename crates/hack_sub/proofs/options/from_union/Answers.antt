@@ -1,5 +1,5 @@
 use Rattle.std.specs.List.{list_all}
-use Rattle.hack_sub.proofs.NamesOf.{in_union}
+use Rattle.hack_sub.specs.NamesOf.{in_union}
 use Rattle.hack_sub.proofs.Tells.{told_under}
 use Rattle.hack_sub.specs.IsBelow.{is_below}
 use Rattle.hack_sub.specs.Parts.{union_members}

@@ -2,7 +2,7 @@ use Rattle.std.proofs.Common.{◌∙◌, Option, ap}
 use Rattle.hack_types.specs.declared.fields.Field.{Field}
 use Rattle.hack_types.specs.declared.hack_type.HackType.{HackType}
 use Rattle.hack_decls.specs.DeclState.{Map}
-use Rattle.hack_sub.proofs.NamesOf.{in_field}
+use Rattle.hack_sub.specs.NamesOf.{in_field}
 use Rattle.hack_sub.proofs.Tells.{answered, told}
 use Rattle.hack_sub.specs.IsBelow.{is_below, meets_by, meets_field}
 use Rattle.hack_sub.proofs.shapes.meets_field.Goals as goal

@@ -3,7 +3,7 @@ use Rattle.std.specs.List.{list_all}
 use Rattle.hack_types.specs.declared.fields.Field.{Field}
 use Rattle.hack_types.specs.declared.hack_type.HackType.{HackType}
 use Rattle.hack_decls.specs.DeclState.{Map}
-use Rattle.hack_sub.proofs.NamesOf.{in_shape}
+use Rattle.hack_sub.specs.NamesOf.{in_shape}
 use Rattle.hack_sub.proofs.Tells.{told, told_under}
 use Rattle.hack_sub.specs.IsBelow.{Test, covers, is_below, meets_field, some_and}
 use Rattle.hack_sub.specs.Parts.{is_open, shape_fields}

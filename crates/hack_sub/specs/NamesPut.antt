@@ -16,7 +16,7 @@ use Rattle.hack_types.specs.formers.fields.Fields.{on_type}
 use Rattle.hack_decls.specs.DeclState.{Symbols}
 use Rattle.hack_decls.specs.NameLaws.{back, front}
 use Rattle.hack_decls.specs.Names.{TypeIn, class_symbol, symbols_by, symbols_in}
-use Rattle.hack_sub.proofs.NamesOf.{alone, each, each_field, field_symbols, gathered, joined, of_null, option_layer, rolled, union_layer, all_symbols}
+use Rattle.hack_sub.specs.NamesOf.{alone, each, each_field, field_symbols, gathered, joined, of_null, option_layer, rolled, union_layer, all_symbols}
 
 module _ (symbols : Symbols) where
   abbrev In : SymbolId → Type 0
@@ -42,11 +42,15 @@ module _ (symbols : Symbols) where
   unfolding symbols_in
   of_mixed = alone symbols HackType-F.Mixed type.Mixed (sym type.rolls-Mixed) (fold-roll-HackType (List SymbolId) symbols_by HackType-F.Mixed)
 
-  of_any : TypeIn symbols type.Any
+  pub of_any : TypeIn symbols type.Any
   unfolding symbols_in
   of_any = alone symbols HackType-F.Any type.Any (sym type.rolls-Any) (fold-roll-HackType (List SymbolId) symbols_by HackType-F.Any)
 
-  of_nothing : TypeIn symbols type.Nothing
+  pub of_nonnull : TypeIn symbols type.Nonnull
+  unfolding symbols_in
+  of_nonnull = alone symbols HackType-F.Nonnull type.Nonnull (sym type.rolls-Nonnull) (fold-roll-HackType (List SymbolId) symbols_by HackType-F.Nonnull)
+
+  pub of_nothing : TypeIn symbols type.Nothing
   unfolding symbols_in
   of_nothing = alone symbols HackType-F.Nothing type.Nothing (sym type.rolls-Nothing) (fold-roll-HackType (List SymbolId) symbols_by HackType-F.Nothing)
 
