@@ -1,0 +1,9 @@
+pub mod ExpandLaws
+pub mod FillLemmas
+pub mod NullLaws
+pub mod PutLaws
+pub mod Restated
+pub mod SightLaws
+pub mod Takes
+pub mod Turns
+pub mod TakenLaws
