@@ -13,8 +13,12 @@ use sqlite_items::Items;
 use std::alloc::Global;
 use std::collections::BTreeMap;
 
-// Adds what the parameters take.
-fn copy_types(alloc: Global, params: &[Param], types: &mut Vec<HackType>) -> Result<(), NoMemory> {
+/// Adds what the parameters take.
+pub(crate) fn copy_types(
+    alloc: Global,
+    params: &[Param],
+    types: &mut Vec<HackType>,
+) -> Result<(), NoMemory> {
     for param in params {
         types.push(param.ty.copy(alloc)?)?;
     }
@@ -114,7 +118,12 @@ fn of_unit(
     }
 }
 
-fn fold_units(alloc: Global, units: &[Unit], decls: &mut MapDecls) -> Result<(), NoMemory> {
+/// Folds all of these.
+pub(crate) fn fold_units(
+    alloc: Global,
+    units: &[Unit],
+    decls: &mut MapDecls,
+) -> Result<(), NoMemory> {
     let mut shallows = BTreeMap::new(alloc);
     let done = match declare(alloc, units, &mut shallows) {
         Ok(()) => fold_all(alloc, units, &shallows, decls),

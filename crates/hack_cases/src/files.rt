@@ -2,7 +2,7 @@
 
 use crate::plain::{note, push_fault, push_made};
 use crate::run::Table;
-use crate::{below, folding, types};
+use crate::{below, folding, inferring, types};
 use hack_first::{FirstUnit, Primitive, Returned, are_first, first_unit};
 use hack_parse_decl::{ParseStop, parse_file, room_by_length};
 use hack_shallow::shallow_of;
@@ -70,6 +70,7 @@ fn show(alloc: Global, table: Table, out: &mut Out<'_>, tree: &FileTree) -> Resu
         Table::Folded => folding::show_last(alloc, out, units, false),
         Table::Lines => folding::show_last(alloc, out, units, true),
         Table::Below => below::show_last(alloc, out, units),
+        Table::Solved => inferring::show_last(alloc, out, units),
         Table::Different => types::different(alloc, out, units),
         Table::Files => {
             out.word("ok");

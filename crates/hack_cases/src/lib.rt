@@ -15,6 +15,8 @@ mod files;
 #[cfg(test)]
 mod folding;
 #[cfg(test)]
+mod inferring;
+#[cfg(test)]
 mod lexer;
 #[cfg(test)]
 mod machine;

@@ -5,6 +5,7 @@ pub(crate) mod below;
 pub(crate) mod diag;
 pub(crate) mod first;
 pub(crate) mod folding;
+pub(crate) mod inferring;
 pub(crate) mod lexer;
 pub(crate) mod machine;
 pub(crate) mod naming;

@@ -45,6 +45,7 @@ pub(crate) enum Table {
     Folded,
     Lines,
     Below,
+    Solved,
     Units,
     Machine,
     Served(usize),
@@ -52,7 +53,7 @@ pub(crate) enum Table {
     Statuses,
 }
 
-const ALL: [Table; 41] = [
+const ALL: [Table; 42] = [
     Table::Words,
     Table::Lists,
     Table::NoWords,
@@ -87,6 +88,7 @@ const ALL: [Table; 41] = [
     Table::Folded,
     Table::Lines,
     Table::Below,
+    Table::Solved,
     Table::Units,
     Table::Machine,
     Table::Served(1),
@@ -131,6 +133,7 @@ impl Table {
             Table::Folded => rows::folding::FOLDED,
             Table::Lines => rows::folding::LINES,
             Table::Below => rows::below::BELOW,
+            Table::Solved => rows::inferring::SOLVED,
             Table::Units => rows::first::UNITS,
             Table::Machine => rows::machine::RUNS,
             Table::Served(_) => rows::serve::SERVED,
@@ -176,7 +179,7 @@ impl Table {
 #[test]
 fn each_row_has_its_answer(rt: HostRuntime) -> Result<(), Fail> {
     let report = try_all(rt.alloc())?;
-    assert_eq!(rt; str::from_utf8(&report).unwrap_or("?"), "1021 rows");
+    assert_eq!(rt; str::from_utf8(&report).unwrap_or("?"), "1055 rows");
     Ok(())
 }
 
