@@ -9,7 +9,8 @@ use Rattle.hack_types.specs.declared.hack_type.HackType.{HackType}
 use Rattle.hack_decls.specs.DeclState.{Symbols}
 use Rattle.hack_decls.specs.Names.{TypeIn}
 use Rattle.hack_infer.proofs.PutLaws.{in_limited}
-use Rattle.hack_infer.specs.Inside.{ListsIn, TakenIn}
+use Rattle.hack_infer.specs.Named.{ListsIn}
+use Rattle.hack_infer.specs.inside.Calls.{TakenIn}
 use Rattle.hack_infer.specs.Matching.{Matches, lists, nothing_taken, pairs, taking, types_at}
 use Rattle.hack_infer.specs.declared.taken.Taken.{Taken}
 use Rattle.hack_infer.specs.declared.taken.Took.{Took}

@@ -5,7 +5,7 @@ use Rattle.hack_decls.specs.Asks.{Asks}
 use Rattle.hack_decls.specs.DeclState.{DeclState, Map, Symbols}
 use Rattle.hack_decls.specs.declared.stop.DeclStop.{DeclStop}
 use Rattle.hack_decls.specs.declared.stop.DeclStop.TheVariants as stop
-use Rattle.hack_infer.specs.Inside.{Left, TakenIn, Takes}
+use Rattle.hack_infer.specs.inside.Calls.{Left, TakenIn, Takes}
 use Rattle.hack_infer.specs.declared.taken.Taken.{Taken}
 
 module _ {Base Held : Type 0} where

@@ -1,6 +1,7 @@
 pub mod Filling
-pub mod Inside
 pub mod Matching
+pub mod Named
 pub mod Seeing
 pub mod Solving
 pub mod WithoutNull
+pub mod inside

@@ -1,7 +1,8 @@
 // Matching: what function parameters take from the types of arguments.
 ghost use Rattle.std.specs.Prelude.{◌≡◌, map};
 ghost use Rattle.hack_decls.specs.Asks.{Asks};
-ghost use Rattle.hack_infer.specs.Inside.{ListsIn, PairIn, PairsIn, Takes, lists_of};
+ghost use Rattle.hack_infer.specs.Named.{ListsIn, PairsIn, lists_of};
+ghost use Rattle.hack_infer.specs.inside.Calls.{PairIn, Takes};
 ghost use Rattle.hack_infer.specs.Matching.{match_in, match_pair, match_params, pairs};
 
 use crate::sights::MOST_STEPS;

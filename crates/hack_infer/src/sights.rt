@@ -3,7 +3,7 @@ ghost use Rattle.std.specs.Prelude.{◌≡◌, ◌==◌, All, IsTrue, IfOk, IfSo
 ghost use Rattle.hack_decls.specs.Asks.{Asks};
 ghost use Rattle.hack_decls.specs.Names.{TypeIn, class_symbol};
 ghost use Rattle.hack_sub.specs.Knowing.{is_trait};
-ghost use Rattle.hack_infer.specs.Inside.{alias_sight, class_sight, enum_sight, given_in, looked_at, next_of, sight_in, SightIn};
+ghost use Rattle.hack_infer.specs.inside.Calls.{alias_sight, class_sight, enum_sight, given_in, looked_at, next_of, sight_in, SightIn};
 ghost use Rattle.hack_infer.specs.Seeing.{ancestor_given, opened, put_in, sight_of};
 
 use crate::sight::Sight;

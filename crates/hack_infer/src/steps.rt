@@ -1,7 +1,8 @@
 // One level of matching: the first step that fits two types.
 ghost use Rattle.std.specs.Prelude.{◌≡◌, fold};
 ghost use Rattle.hack_sub.specs.Parts.{as_keyed, option_inside, union_members};
-ghost use Rattle.hack_infer.specs.Inside.{BothIn, ClassIn, MembersIn, NamedIn, Matching, PairIn, PairsIn, Takes};
+ghost use Rattle.hack_infer.specs.Named.{PairsIn};
+ghost use Rattle.hack_infer.specs.inside.Calls.{BothIn, ClassIn, MembersIn, NamedIn, Matching, PairIn, Takes};
 ghost use Rattle.hack_infer.specs.Matching.{by_wanted, class_types, dicts, expanding, given_by, given_seen, keyed_or, keysets, match_in, members_by, option_by, pairs, vectors, wanted_seen};
 ghost use Rattle.hack_infer.specs.Seeing.{ancestor_given, given, seen_as, sight_of};
 ghost use Rattle.hack_infer.specs.WithoutNull.{without_null};

@@ -1,5 +1,6 @@
 use Rattle.std.proofs.Common.{drop}
-use Rattle.hack_infer.specs.Inside.{Left, PairsIn}
+use Rattle.hack_infer.specs.Named.{PairsIn}
+use Rattle.hack_infer.specs.inside.Calls.{Left}
 use Rattle.hack_infer.specs.Matching.{match_pair, pairs}
 use Rattle.hack_infer.proofs.matching.match_all.Given as goal
 

@@ -2,7 +2,8 @@ use Rattle.std.proofs.Common.{◌∙◌, List, sym, ap, subst}
 use Rattle.hack_decls.specs.AskLaws.{said}
 use Rattle.hack_types.specs.declared.hack_type.HackType.{HackType}
 use Rattle.hack_infer.proofs.TakenLaws.{in_lists, none_taken}
-use Rattle.hack_infer.specs.Inside.{ListsIn, TakenIn}
+use Rattle.hack_infer.specs.Named.{ListsIn}
+use Rattle.hack_infer.specs.inside.Calls.{TakenIn}
 use Rattle.hack_infer.specs.Matching.{lists, match_pair, pairs}
 use Rattle.hack_infer.specs.declared.taken.Taken.{Taken}
 use Rattle.hack_infer.specs.declared.taken.Took.{Took}

@@ -1,5 +1,5 @@
 use Rattle.std.proofs.Common.{◌+◌, ◌*◌, take}
-use Rattle.hack_infer.specs.Inside.{PartsSoFar}
+use Rattle.hack_infer.specs.inside.Calls.{PartsSoFar}
 use Rattle.hack_infer.specs.WithoutNull.{without_null_in}
 use Rattle.hack_infer.proofs.nulls.+without.Given as goal
 

@@ -8,7 +8,7 @@ use Rattle.hack_decls.specs.declared.answers.AncestorAnswer.{AncestorAnswer}
 use Rattle.std.specs.Option.{option_map}
 use Rattle.hack_sub.specs.Knowing.{ancestor_by}
 use Rattle.hack_infer.proofs.SightLaws.{given_law, given_named}
-use Rattle.hack_infer.specs.Inside.{given_in}
+use Rattle.hack_infer.specs.inside.Calls.{given_in}
 use Rattle.hack_infer.specs.Seeing.{put_in}
 use Rattle.hack_infer.proofs.sights.ancestor_given.Goals as goal
 

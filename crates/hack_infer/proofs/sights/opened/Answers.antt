@@ -4,7 +4,7 @@ use Rattle.hack_decls.specs.AskLaws.{said}
 use Rattle.hack_decls.specs.Names.{TypeIn}
 use Rattle.hack_sub.specs.Knowing.{is_bad, known}
 use Rattle.hack_infer.proofs.SightLaws.{next_law, next_named}
-use Rattle.hack_infer.specs.Inside.{next_of}
+use Rattle.hack_infer.specs.inside.Calls.{next_of}
 use Rattle.hack_infer.specs.Seeing.{opened}
 use Rattle.hack_infer.proofs.sights.opened.Goals as goal
 

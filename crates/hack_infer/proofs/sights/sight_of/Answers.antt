@@ -9,7 +9,7 @@ use Rattle.hack_sub.specs.Knowing.{expanded_by, is_bad, known_as}
 use Rattle.hack_sub.specs.Parts.{arguments_of}
 use Rattle.hack_sub.specs.NamesOf.{in_class}
 use Rattle.hack_infer.proofs.Restated.{restated}
-use Rattle.hack_infer.specs.Inside.{looked_at}
+use Rattle.hack_infer.specs.inside.Calls.{looked_at}
 use Rattle.hack_infer.specs.Seeing.{sight_by}
 use Rattle.hack_infer.specs.declared.sight.Sight.{Sight}
 use Rattle.hack_infer.proofs.sights.sight_of.Goals as goal

@@ -3,7 +3,7 @@ use Rattle.hack_decls.specs.DeclState.{Map}
 use Rattle.hack_infer.proofs.TakenLaws.{in_taking}
 use Rattle.hack_infer.proofs.Takes.{takes_alone, takes_as}
 use Rattle.hack_infer.specs.Matching.{match_in, param_by}
-use Rattle.hack_infer.specs.Inside.{TakenIn}
+use Rattle.hack_infer.specs.inside.Calls.{TakenIn}
 use Rattle.hack_infer.specs.declared.taken.Taken.{Taken}
 use Rattle.hack_infer.proofs.steps.by_wanted.Goals as goal
 

@@ -1,6 +1,6 @@
 use Rattle.std.proofs.Common.{drop}
 use Rattle.std.specs.List.{fold}
-use Rattle.hack_infer.specs.Inside.{Left, MembersIn}
+use Rattle.hack_infer.specs.inside.Calls.{Left, MembersIn}
 use Rattle.hack_infer.specs.Matching.{match_in}
 use Rattle.hack_infer.proofs.steps.each_member.Given as goal
 

@@ -1,7 +1,6 @@
--- What the calls of the crate say to each other. No public clause names these but `PairsIn`, `ListsIn` and `lists_of`.
+-- What the calls of the crate say to each other.
 use Rattle.std.specs.Prelude.{◌≡◌, ◌==◌, ◌||◌, ℕ, not, Result, Ok, Option, Some, None, List, All, length, if◌then◌else◌, option_map, IsTrue, map}
 use denote.Ref.{Bor, MutBor}
-use Rattle.std.specs.Global.{Vec}
 use Rattle.hack_types.specs.Substituted.{limited}
 use Rattle.hack_types.specs.declared.hack_type.HackType.{HackType}
 use Rattle.hack_types.specs.declared.shallow.Sort.{Sort}
@@ -18,6 +17,7 @@ use Rattle.hack_decls.specs.declared.stop.DeclStop.{DeclStop}
 use Rattle.hack_sub.specs.Knowing.{expanded_by, is_bad, is_trait, known_by}
 use Rattle.hack_sub.specs.Parts.{keyed_container}
 use Rattle.hack_infer.specs.Matching.{match_in}
+use Rattle.hack_infer.specs.Named.{PairsIn}
 use Rattle.hack_infer.specs.Seeing.{put_in, sight_by}
 use Rattle.hack_infer.specs.declared.sight.Sight.{Sight}
 use Rattle.hack_infer.specs.declared.sight.Sight.TheVariants as sight
@@ -90,11 +90,6 @@ pub record PairIn (symbols : Symbols) (W G : HackType) : Type 0 where
   pub wanted : TypeIn symbols W
   pub given : TypeIn symbols G
 
-pub record PairsIn (symbols : Symbols) (Ws Gs : List HackType) : Type 0 where
-  pub keyed : IsTrue (symbols (class_symbol keyed_container))
-  pub wanted : All (TypeIn symbols) Ws
-  pub given : All (TypeIn symbols) Gs
-
 pub record MembersIn (symbols : Symbols) (W : HackType) (Gs : List HackType) : Type 0 where
   pub keyed : IsTrue (symbols (class_symbol keyed_container))
   pub wanted : TypeIn symbols W
@@ -112,14 +107,6 @@ pub record NamedIn (symbols : Symbols) (Ws : List HackType) (G : HackType) : Typ
 pub record ClassIn (symbols : Symbols) (name : ℕ) (Ws Gs : List HackType) : Type 0 where
   pub class : IsTrue (symbols (class_symbol name))
   pub pairs : PairsIn symbols Ws Gs
-
--- lists as they are answered
-abbrev pub lists_of : List (Vec HackType) → List (List HackType)
-lists_of lists = map (λ types. types.items) lists
-
--- each type in them
-abbrev pub ListsIn : Symbols → List (List HackType) → Type 0
-ListsIn symbols found = All (λ types. All (TypeIn symbols) types) found
 
 -- a function value that matches one pair, so deep
 pub record Matching {Alloc D Base Held : Type 0} (state : D → DeclState Base Held) (depth : ℕ)
