@@ -7,9 +7,18 @@ use hack_shallow::shallow_of;
 use hack_show::{Out, show_type};
 use hack_sub::Scope;
 use hack_tree::Unit;
-use hack_types::{HackType, NoMemory, Shallow, Signature, SubstStop};
+use hack_types::{HackType, NoMemory, Shallow, Signature, SubstStop, TypeParam};
 use sqlite_items::Items;
 use std::alloc::Global;
+
+// How many type parameters there are; no row has as many as 256.
+fn count_of(params: &[TypeParam]) -> u32 {
+    if params.len() < 256 {
+        params.len() as u32
+    } else {
+        0
+    }
+}
 
 // What the callee's type parameters take from the caller's parameters.
 fn taken(
@@ -28,7 +37,7 @@ fn taken(
     };
     let all_wanted = copy_types(alloc, callee.params.as_slice(), &mut wanted);
     let all_given = copy_types(alloc, caller.params.as_slice(), &mut given);
-    let count = callee.type_params.len() as u32;
+    let count = count_of(callee.type_params.as_slice());
     let found = match_params(
         alloc,
         decls,
