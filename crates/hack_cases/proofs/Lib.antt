@@ -1,1 +1,1 @@
-mod TypeNames
+mod FieldsRise

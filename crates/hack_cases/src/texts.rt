@@ -1,6 +1,4 @@
-// The texts of types. Those come from types made by hand, since no call tells whether the names of a type are among others.
-ghost use Rattle.std.specs.Prelude.{◌<◌, All, IfOk};
-ghost use Rattle.hack_types.specs.TypeText.{AreNames};
+// The texts of types made by hand.
 
 use crate::plain::{push_made, split};
 use case_table::cases;
@@ -37,18 +35,11 @@ fn write(alloc: Global, names: &Names, out: &mut Out<'_>, text: &[u8]) -> Result
     Ok(())
 }
 
-#[tactic(auto, using(crate::proofs::TypeNames::more_names))]
-fn push_text(alloc: Global, names: &Names, out: &mut Out<'_>, ty: &HackType)
-    requires { AreNames 11 ty.now }
-{
-    if names.count() >= 11 {
-        push_made(out, type_text(alloc, names, ty));
-    }
+fn push_text(alloc: Global, names: &Names, out: &mut Out<'_>, ty: &HackType) {
+    push_made(out, type_text(alloc, names, ty));
 }
 
-fn made(alloc: Global, text: &[u8]) -> Result<HackType, NoMemory>
-    ensures { IfOk result (AreNames 11) }
-{
+fn made(alloc: Global, text: &[u8]) -> Result<HackType, NoMemory> {
     let (first, rest) = split(text, b' ');
     let (second, third) = split(rest, b' ');
     let inside = around(alloc, second, word_type(place_of(first)))?;
@@ -56,10 +47,7 @@ fn made(alloc: Global, text: &[u8]) -> Result<HackType, NoMemory>
 }
 
 // A type around one, by a letter and how many arguments or members it has, or what sort of shape it is.
-fn around(alloc: Global, word: &[u8], ty: HackType) -> Result<HackType, NoMemory>
-    requires { AreNames 11 ty }
-    ensures { IfOk result (AreNames 11) }
-{
+fn around(alloc: Global, word: &[u8], ty: HackType) -> Result<HackType, NoMemory> {
     match word {
         [] => Ok(ty),
         [b'd', ..] => dict(alloc, ty),
@@ -73,21 +61,14 @@ fn around(alloc: Global, word: &[u8], ty: HackType) -> Result<HackType, NoMemory
     }
 }
 
-fn copied(alloc: Global, ty: HackType) -> Result<HackType, NoMemory>
-    requires { AreNames 11 ty }
-    ensures { IfOk result (AreNames 11) }
-{
+fn copied(alloc: Global, ty: HackType) -> Result<HackType, NoMemory> {
     let copy = ty.copy(alloc);
     drop(ty);
     copy
 }
 
 // `?T`, `vec<T>` and `keyset<T>`
-#[tactic(auto, using(crate::proofs::TypeNames::are_names_option, crate::proofs::TypeNames::are_names_vector, crate::proofs::TypeNames::are_names_keyset))]
-fn around_one(alloc: Global, kind: u8, ty: HackType) -> Result<HackType, NoMemory>
-    requires { AreNames 11 ty }
-    ensures { IfOk result (AreNames 11) }
-{
+fn around_one(alloc: Global, kind: u8, ty: HackType) -> Result<HackType, NoMemory> {
     let inside = Boxed::new(alloc, ty)?;
     match kind {
         b'?' => Ok(HackType::Option(inside)),
@@ -97,21 +78,13 @@ fn around_one(alloc: Global, kind: u8, ty: HackType) -> Result<HackType, NoMemor
 }
 
 // `dict<int, T>`
-#[tactic(auto, using(crate::proofs::TypeNames::are_names_dict, crate::proofs::TypeNames::are_names_int))]
-fn dict(alloc: Global, ty: HackType) -> Result<HackType, NoMemory>
-    requires { AreNames 11 ty }
-    ensures { IfOk result (AreNames 11) }
-{
+fn dict(alloc: Global, ty: HackType) -> Result<HackType, NoMemory> {
     let value = Boxed::new(alloc, ty)?;
     Ok(HackType::Dict(Boxed::new(alloc, HackType::Int)?, value))
 }
 
 // `C` and a union, around nothing, a type, or a type and `T`.
-#[tactic(auto, using(crate::proofs::TypeNames::are_names_class, crate::proofs::TypeNames::are_names_union))]
-fn around_many(alloc: Global, kind: u8, count: u8, ty: HackType) -> Result<HackType, NoMemory>
-    requires { AreNames 11 ty }
-    ensures { IfOk result (AreNames 11) }
-{
+fn around_many(alloc: Global, kind: u8, count: u8, ty: HackType) -> Result<HackType, NoMemory> {
     let types = types(alloc, count, ty)?;
     if kind == b'C' {
         Ok(HackType::Class(NameId::new(9), types))
@@ -120,11 +93,7 @@ fn around_many(alloc: Global, kind: u8, count: u8, ty: HackType) -> Result<HackT
     }
 }
 
-#[tactic(auto, using(crate::proofs::TypeNames::are_names_fun_param))]
-fn types(alloc: Global, count: u8, ty: HackType) -> Result<Items<HackType>, NoMemory>
-    requires { AreNames 11 ty }
-    ensures { IfOk result (λ types. All (AreNames 11) types) }
-{
+fn types(alloc: Global, count: u8, ty: HackType) -> Result<Items<HackType>, NoMemory> {
     let mut types = Items::new(alloc);
     if count == b'0' {
         drop(ty);
@@ -138,10 +107,8 @@ fn types(alloc: Global, count: u8, ty: HackType) -> Result<Items<HackType>, NoMe
 }
 
 // A shape with `zeta`, which may be missing, and `alpha`, or with no field.
-#[tactic(auto, using(crate::proofs::TypeNames::are_names_shape, crate::proofs::TypeNames::no_fields_rise))]
-fn shape(alloc: Global, some: bool, rest: bool) -> Result<HackType, NoMemory>
-    ensures { IfOk result (AreNames 11) }
-{
+#[tactic(auto, using(crate::proofs::FieldsRise::no_fields_rise))]
+fn shape(alloc: Global, some: bool, rest: bool) -> Result<HackType, NoMemory> {
     let fields = if some {
         two_fields(alloc)?
     } else {
@@ -150,10 +117,8 @@ fn shape(alloc: Global, some: bool, rest: bool) -> Result<HackType, NoMemory>
     Ok(HackType::Shape { fields, rest })
 }
 
-#[tactic(auto, using(crate::proofs::TypeNames::are_names_float, crate::proofs::TypeNames::are_names_class_param, crate::proofs::TypeNames::two_fields_rise))]
-fn two_fields(alloc: Global) -> Result<Fields<HackType>, NoMemory>
-    ensures { IfOk result (λ fields. All (λ field. (field.key < 11) × AreNames 11 field.ty) fields) }
-{
+#[tactic(auto, using(crate::proofs::FieldsRise::two_fields_rise))]
+fn two_fields(alloc: Global) -> Result<Fields<HackType>, NoMemory> {
     let mut fields = Vec::new(alloc);
     fields.push(Field {
         key: NameId::new(7),
@@ -192,10 +157,7 @@ fn place_of(word: &[u8]) -> u16 {
 }
 
 // The type at a place.
-#[tactic(auto, using(crate::proofs::TypeNames::are_names_any, crate::proofs::TypeNames::are_names_mixed, crate::proofs::TypeNames::are_names_nonnull, crate::proofs::TypeNames::are_names_nothing, crate::proofs::TypeNames::are_names_null, crate::proofs::TypeNames::are_names_void, crate::proofs::TypeNames::are_names_noreturn, crate::proofs::TypeNames::are_names_bool, crate::proofs::TypeNames::are_names_int, crate::proofs::TypeNames::are_names_float, crate::proofs::TypeNames::are_names_num, crate::proofs::TypeNames::are_names_str, crate::proofs::TypeNames::are_names_arraykey, crate::proofs::TypeNames::are_names_this))]
-fn word_type(place: u16) -> HackType
-    ensures { AreNames 11 result }
-{
+fn word_type(place: u16) -> HackType {
     match place {
         0 => HackType::Any,
         1 => HackType::Arraykey,

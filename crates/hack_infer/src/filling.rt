@@ -6,10 +6,12 @@ ghost use Rattle.hack_types.specs.declared.hack_type.HackType.TheVariants.{Any};
 ghost use Rattle.hack_types.specs.formers.fields.Fields.{on_type};
 ghost use Rattle.hack_infer.specs.Filling.{applied, at_position, filled, filling_of, this_or};
 
-use crate::size::{MOST_NODES, take_nodes};
 use hack_types::{Field, Fields, HackType, NoMemory, SubstStop, into_option, union_of};
 use sqlite_items::{Boxed, Items};
 use std::alloc::Global;
+
+/// How many nodes a type may have (docs/language.md, Types and their texts).
+pub(crate) const MOST_NODES: u32 = 256;
 
 /// What stands for type parameters and for `this` in a type; what has nothing here stays.
 #[derive(Clone, Copy)]
@@ -38,9 +40,9 @@ pub fn fill(alloc: Global, ty: &HackType, filling: &Filling<'_>) -> Result<HackT
     Ok(filled)
 }
 
-/// The type with these in the place of the type parameters of the function, by position, and `_` where there are too few of them.
-/// `TooBig` says that it would have more than 256 nodes, and `NoMemory` that memory ran out (docs/language.md, Typing expressions,
-/// Calls).
+/// The type with these in the place of the type parameters of the function, by position, and `_` where there are too few of them;
+/// those of the class and `this` stay (docs/language.md, Typing expressions, Calls). `TooBig` says that it would have more than 256
+/// nodes, and `NoMemory` that memory ran out; callers put `_` in the place of what is too big.
 pub fn apply(alloc: Global, ty: &HackType, solved: &[HackType]) -> Result<HackType, SubstStop>
     ensures { IsUnlessTooBig result (applied solved.now ty.now) }
 {
@@ -191,7 +193,7 @@ fn take_this(filling: &Filling<'_>, left: u32) -> Option<u32>
     ensures none { IfNone result (left < nodes (this_or Any (filling_of filling.now).this)) }
 {
     match filling.this {
-        Some(this) => take_nodes(this, left),
+        Some(this) => this.take_nodes(left),
         None => left.checked_sub(1),
     }
 }
@@ -203,7 +205,7 @@ fn take_argument(types: &[HackType], position: u32, left: u32) -> Option<u32>
     ensures none { IfNone result (left < nodes (slice_index_or types.now position Any)) }
 {
     match types.get(position as usize) {
-        Some(ty) => take_nodes(ty, left),
+        Some(ty) => ty.take_nodes(left),
         None => left.checked_sub(1),
     }
 }

@@ -8,7 +8,6 @@ mod nulls;
 mod parts;
 mod sight;
 mod sights;
-mod size;
 mod solving;
 mod steps;
 mod taken;

@@ -17,8 +17,9 @@ use std::alloc::Global;
 const MOST_DEPTH: u32 = 8704;
 
 /// What each of so many function parameters takes from the wanted and the given types, pair by pair as far as both lists go, in order
-/// (docs/language.md, Typing expressions, Calls). Matching looks at no scope. An error says why a declaration can't be had, or that
-/// memory ran out.
+/// (docs/language.md, Typing expressions, Calls). The answer has as many lists as `count` says; a parameter with another position
+/// takes nothing. In each pair at most sixteen aliases are expanded. Matching looks at no scope. `EdgesFull` says that a lookup's note
+/// was refused, and `NoMemory` that memory ran out; what was noted before stays noted.
 pub fn match_params<D: Decls>(
     alloc: Global,
     decls: &mut D,

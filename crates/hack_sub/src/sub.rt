@@ -34,7 +34,8 @@ const MOST_NODES: u32 = 256;
 const MOST_HEIGHT: u32 = 16;
 
 /// Whether the first type is below the second: there is a derivation of height at most 16 whose types have at most 256 nodes
-/// (docs/language.md, Subtyping).
+/// (docs/language.md, Subtyping). `EdgesFull` says that a lookup's note was refused, and `NoMemory` that memory ran out; what was noted
+/// before stays noted.
 pub fn is_sub<D: Decls>(
     alloc: Global,
     decls: &mut D,

@@ -1,15 +1,13 @@
 -- The fields of a shape in the order of their keys: how the code makes it, and what it keeps.
-use Rattle.std.proofs.Common.{◌≡◌, ◌+◌, ◌<◌, ◌≤◌, max, ℕ, List, [], ◌∷◌, All, length, map, take, get_or, Bor, Some, refl, sym, ap, subst, ◌∙◌, arith}
+use Rattle.std.proofs.Common.{◌≡◌, ◌+◌, ◌<◌, ◌≤◌, max, ℕ, List, [], ◌∷◌, All, length, map, take, get_or, Bor, refl, sym, ap, subst, ◌∙◌, arith}
 use denote.Param.Weighed.{most, at_most}
 use Rattle.std.specs.declared.cmp.Ordering.{Ordering}
 use Rattle.std.specs.declared.cmp.Ordering.TheVariants.{Less, Equal, Greater}
-use Rattle.std.specs.Prelude.{slice_get}
 use Rattle.std.specs.List.{fold}
 use Rattle.std.specs.Ordering.{match_ordering, nat_cmp}
 use Rattle.std.specs.Cmp.Lexicographic.{slice_cmp}
 use Rattle.std.specs.Map.{values_of}
 use Rattle.std.specs.BTreeMap.{insert_entry}
-use Rattle.std.specs.Option.{unwrap_or}
 use Rattle.std.proofs.lemmas.List.{length-map}
 use Rattle.std.proofs.Math.ListN.{get_or-map}
 use Rattle.std.proofs.lemmas.List.Elements.{All-head, All-tail}
@@ -21,7 +19,6 @@ use Rattle.hack_types.specs.declared.hack_type.HackType.{HackType}
 use Rattle.hack_types.specs.formers.fields.Fields.{on_type}
 use Rattle.hack_types.specs.TypeText.{by_key, name_text, placed}
 use Rattle.hack_types.proofs.hack_type.HackType.TheLaws.{the_size}
-use Rattle.hack_types.proofs.NamesInTypes.{IsField}
 
 chosen : {A B : Type 0} (h : A → B) (o : Ordering) (a b c : A) → h (match_ordering o a b c) ≡ match_ordering o (h a) (h b) (h c)
 chosen h Less a b c = refl
@@ -47,12 +44,12 @@ module _ {T : Type 0} (names : List (List ℕ)) where
   read entry = (entry.0.now, entry.1.now)
 
   pub placed_more : (fields : List (Field T)) (i : ℕ) (entries : List (Bor (List ℕ) × Bor (Field T))) (key : Bor (List ℕ)) (field : Bor (Field T))
-      → i < length fields → slice_get names field.now.key ≡ Some key.now → field.now ≡ get_or fields i field.now
+      → i < length fields → key.now ≡ name_text names field.now.key → field.now ≡ get_or fields i field.now
       → map read entries ≡ placed names (take i fields)
       → map read (insert_entry (λ x y. slice_cmp nat_cmp x.now y.now) entries key field) ≡ placed names (take (i + 1) fields)
   placed_more fields i entries key field lt found at before =
       insert_entry_mapped (λ k. k.now) (λ v. v.now) (λ x y. slice_cmp nat_cmp x.now y.now) byte_order (λ a b. refl) entries key field
-      ∙ (λ j. insert_entry byte_order (before j) (unwrap_or (sym found j) []) field.now)
+      ∙ (λ j. insert_entry byte_order (before j) (found j) field.now)
       ∙ (λ j. place (placed names (take i fields)) (at j))
       ∙ sym (fold_more place [] fields i field.now lt)
 
@@ -91,14 +88,10 @@ module _ (P : Field HackType → Type 0) (names : List (List ℕ)) where
 abbrev pub depth : Field HackType → ℕ
 depth field = max 0 (the_size field.ty)
 
--- a field of a shape: its names are some of so many, and it is no deeper than the deepest
-abbrev pub IsInside : ℕ → List (Field HackType) → Field HackType → Type 0
-IsInside count fields field = IsField count field × (depth field ≤ most depth fields)
-
-pub inside : (count : ℕ) (names : List (List ℕ)) (fields : List (Field HackType)) (ordered items : List (Bor (Field HackType))) (i : ℕ) (field : Bor (Field HackType))
-    → All (IsField count) fields → map (λ f. f.now) ordered ≡ by_key names fields → items ≡ ordered → i < length items → field ≡ get_or items i field → IsInside count fields field.now
-inside count names fields ordered items i field all order same lt is =
-    let P : Field HackType → Type 0 = IsInside count fields in
-    let each : All P fields = λ k d lt'. (all k d lt', at_most depth fields k d lt') in
-    let found : All P (map (λ f. f.now) items) = subst (All P) (sym (ap (map (λ f. f.now)) same ∙ order)) (kept P names fields each) in
+-- a field of a shape is no deeper than the deepest
+pub inside : (names : List (List ℕ)) (fields : List (Field HackType)) (ordered items : List (Bor (Field HackType))) (i : ℕ) (field : Bor (Field HackType))
+    → map (λ f. f.now) ordered ≡ by_key names fields → items ≡ ordered → i < length items → field ≡ get_or items i field → depth field.now ≤ most depth fields
+inside names fields ordered items i field order same lt is =
+    let P : Field HackType → Type 0 = λ f. depth f ≤ most depth fields in
+    let found : All P (map (λ f. f.now) items) = subst (All P) (sym (ap (map (λ f. f.now)) same ∙ order)) (kept P names fields (at_most depth fields)) in
     subst P (get_or-map (λ f. f.now) items i field ∙ ap (λ f. f.now) (sym is)) (found i field.now (subst (λ n. i < n) (sym (length-map items (λ f. f.now))) lt))

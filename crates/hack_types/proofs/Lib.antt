@@ -1,6 +1,5 @@
 pub mod FieldOrder
 pub mod NameLemmas
-pub mod NamesInTypes
 pub mod PutLemmas
 pub mod RisingLaws
 pub mod TextLemmas

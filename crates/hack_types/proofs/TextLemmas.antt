@@ -1,8 +1,6 @@
 -- The texts of types, piece by piece as the code writes them.
-use Rattle.std.proofs.Common.{◌≡◌, ◌≢◌, ◌+◌, ◌<◌, ◌≤◌, ℕ, Bool, true, false, if◌then◌else◌, List, [], ◌∷◌, ◌++◌, OnOk, length, map, drop, get_or, Bor, Some, codes, refl, sym, ap, subst, ◌∙◌}
-use Rattle.std.specs.Prelude.{slice_get}
+use Rattle.std.proofs.Common.{◌≡◌, ◌≢◌, ◌+◌, ◌<◌, ◌≤◌, ℕ, Bool, true, false, if◌then◌else◌, List, [], ◌∷◌, ◌++◌, OnOk, length, map, drop, get_or, Bor, codes, refl, sym, ap, subst, ◌∙◌}
 use Rattle.std.specs.List.{flat_map}
-use Rattle.std.specs.Option.{unwrap_or}
 use Rattle.std.specs.declared.result.Result.{Result}
 use Rattle.std.proofs.lemmas.Simd.{map-map}
 use Rattle.std.proofs.lemmas.List.{append_assoc, append-nil, drop_all, drop_more}
@@ -13,7 +11,7 @@ use Rattle.hack_types.specs.declared.hack_type.HackType.TheOpen.{HackType-F}
 use Rattle.hack_types.specs.declared.hack_type.HackType.TheFolds.{fold-roll-HackType}
 use Rattle.hack_types.specs.declared.hack_type.HackType.TheVariants.{Option, Vector, Dict, Keyset, Class, Union, rolls-Option, rolls-Vector, rolls-Dict, rolls-Keyset, rolls-Class, rolls-Union}
 use Rattle.hack_types.specs.formers.fields.Fields.{on_type}
-use Rattle.hack_types.specs.TypeText.{arguments_text, by_key, field_text, joined, key_text, rest_text, shape_text, text_by, type_text}
+use Rattle.hack_types.specs.TypeText.{arguments_text, by_key, field_text, joined, key_text, name_text, rest_text, shape_text, text_by, type_text}
 use Rattle.hack_types.proofs.FieldOrder.{by_key_typed}
 
 -- the texts in a row, each with bytes before it: the first with these, the others with those between each two
@@ -91,13 +89,13 @@ module _ (names : List (List ℕ)) (type : HackType) where
   as_arguments [] some = absurd (some refl)
   as_arguments (t ∷ ts) some = refl
 
-  pub class_written : (old middle word : List ℕ) (name : ℕ) (arguments : List HackType) → type ≡ Class name arguments → slice_get names name ≡ Some word → arguments ≢ [] → middle ≡ old ++ word
+  pub class_written : (old middle word : List ℕ) (name : ℕ) (arguments : List HackType) → type ≡ Class name arguments → word ≡ name_text names name → arguments ≢ [] → middle ≡ old ++ word
       → middle ++ codes "<" ++ joined (codes ", ") (map text_of arguments) ++ codes ">" ≡ old ++ text_of type
   class_written old middle word name arguments is found some before =
       let all = joined (codes ", ") (map text_of arguments) in
       around middle (codes "<") all (codes ">")
       ∙ grow old word (codes "<" ++ all ++ codes ">") middle before
-      ∙ (λ i. old ++ (unwrap_or (sym found i) [] ++ as_arguments arguments some i))
+      ∙ (λ i. old ++ (found i ++ as_arguments arguments some i))
       ∙ ap (λ text. old ++ text) (sym (ap text_of is ∙ ap text_of (sym (rolls-Class name arguments)) ∙ fold-roll-HackType (List ℕ) (text_by names) (HackType-F.Class name arguments)))
 
 -- the texts of the fields in their order, and what stands last, are those of the definition
@@ -109,11 +107,11 @@ pieces_are names fields items rest order =
     ∙ sym (map-map (field_text names) (on_type (type_text names)) (by_key names fields))
     ∙ ap (map (field_text names)) (sym (by_key_typed (type_text names) names fields)))
 
-pub field_written : (names : List (List ℕ)) (old ahead word : List ℕ) (field : Field HackType) → slice_get names field.key ≡ Some word
+pub field_written : (names : List (List ℕ)) (old ahead word : List ℕ) (field : Field HackType) → word ≡ name_text names field.key
     → old ++ ahead ++ key_text word field.optional ++ type_text names field.ty ≡ old ++ ahead ++ field_text names (on_type (type_text names) field)
 field_written names old ahead word field found =
     append_assoc (old ++ ahead) (key_text word field.optional) (type_text names field.ty)
-    ∙ (λ i. old ++ ahead ++ (key_text (unwrap_or (sym found i) []) field.optional ++ type_text names field.ty))
+    ∙ (λ i. old ++ ahead ++ (key_text (found i) field.optional ++ type_text names field.ty))
 
 pub shape_written : (names : List (List ℕ)) (fields : List (Field HackType)) (items : List (Bor (Field HackType))) (rest : Bool) (old start written ahead : List ℕ) (i : ℕ)
     → map (λ f. f.now) items ≡ by_key names fields → length items ≤ i → start ≡ old ++ codes "shape("

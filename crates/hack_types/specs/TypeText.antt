@@ -1,6 +1,6 @@
 -- How a type is written in a text of the report (docs/language.md, Types and their texts).
-use Rattle.std.specs.Prelude.{ℕ, ◌<◌, Bool, if◌then◌else◌, List, [], ◌∷◌, ◌++◌, All, map, codes, slice_get}
-use Rattle.std.specs.List.{concat, flat_map, fold, join_by}
+use Rattle.std.specs.Prelude.{ℕ, Bool, if◌then◌else◌, List, [], ◌∷◌, ◌++◌, map, codes, slice_get}
+use Rattle.std.specs.List.{fold, join_by}
 use Rattle.std.specs.Option.{unwrap_or}
 use Rattle.std.specs.BTreeMap.{insert_entry}
 use Rattle.std.specs.Map.{values_of}
@@ -79,24 +79,3 @@ text_by names type = word_by type
 
 abbrev pub type_text : List (List ℕ) → HackType → List ℕ
 type_text names = fold-HackType (List ℕ) (text_by names)
-
--- the ids of names that one constructor has, with those of each type inside in its place
-abbrev pub names_by : HackType-F (List ℕ) → List ℕ
-names_by (HackType-F.Option inside) = inside
-names_by (HackType-F.Vector item) = item
-names_by (HackType-F.Dict key value) = key ++ value
-names_by (HackType-F.Keyset item) = item
-names_by (HackType-F.Shape fields rest) = flat_map (λ field. field.key ∷ field.ty) fields
-names_by (HackType-F.Class name arguments) = name ∷ concat arguments
-names_by (HackType-F.ClassParam position name) = name ∷ []
-names_by (HackType-F.FunParam position name) = name ∷ []
-names_by (HackType-F.Union members) = concat members
-names_by _ = []
-
--- the ids of names in a type
-unfoldable pub names_in : HackType → List ℕ
-names_in = fold-HackType (List ℕ) names_by
-
--- each of them is one of so many names
-unfoldable pub AreNames : ℕ → HackType → Type 0
-AreNames count type = All (λ name. name < count) (names_in type)

@@ -13,10 +13,11 @@ impl HackType {
         self.take_nodes(limit).is_some()
     }
 
-    // What is left of a number of nodes once those of the type are taken from it, where it has as many.
+    /// What is left of a number of nodes once those of the type are taken from it, where it has as many. It visits no more than that
+    /// many (docs/language.md, Types and their texts).
     #[cycle(nodes)]
     #[tactic(auto, using(crate::specs::NodeLaws::nodes_of_shape, crate::specs::NodeLaws::nodes_of_class, crate::specs::NodeLaws::nodes_of_union))]
-    pub(crate) fn take_nodes(&self, left: u32) -> Option<u32>
+    pub fn take_nodes(&self, left: u32) -> Option<u32>
         ensures some { IfSome result (λ rest. rest + nodes self.now ≡ left) }
         ensures none { IfNone result (left < nodes self.now) }
     {

@@ -1,18 +1,28 @@
 // How a type is written.
-ghost use Rattle.std.specs.Prelude.{◌≡◌, ◌<◌, ◌++◌, [], All, IfOk, OnOk, codes, if◌then◌else◌, length, map};
-ghost use Rattle.hack_types.specs.TypeText.{by_key, joined, key_text, shape_text, type_text, word_by, AreNames};
+ghost use Rattle.std.specs.Prelude.{◌≡◌, ◌++◌, [], IfOk, OnOk, codes, if◌then◌else◌, map};
+ghost use Rattle.hack_types.specs.TypeText.{by_key, joined, key_text, name_text, shape_text, type_text, word_by};
 ghost use Rattle.hack_types.specs.declared.hack_type.HackType.{out-HackType};
 ghost use Rattle.hack_types.specs.formers.fields.Fields.{on_type};
 
-use crate::{Field, Fields, HackType, Names, NoMemory};
+use crate::{Field, Fields, HackType, NameId, Names, NoMemory};
 use sqlite_items::Items;
 use std::alloc::Global;
 use std::collections::BTreeMap;
 
-/// The text of a type whose names are all among these; an error says that memory ran out
+/// The text of the name with this id, and nothing where there is no such name. It takes no memory.
+pub fn name_text(names: &Names, id: NameId) -> &[u8]
+    ensures { result.now ≡ name_text names.now id }
+{
+    if id.number() < names.count() {
+        names.text_of(id)
+    } else {
+        b""
+    }
+}
+
+/// The text of a type, in which nothing stands for an id that none of the names has. An error says that memory ran out
 /// (docs/language.md, Types and their texts).
 pub fn type_text(alloc: Global, names: &Names, ty: &HackType) -> Result<Vec<u8>, NoMemory>
-    requires { AreNames (length names.now) ty.now }
     ensures { IfOk result (λ text. text.items ≡ type_text names.now ty.now) }
 {
     let mut text = Vec::new(alloc);
@@ -28,7 +38,6 @@ fn write_type(
     ty: &HackType,
     text: &mut Vec<u8>,
 ) -> Result<(), NoMemory>
-    requires { AreNames (length names.now) ty.now }
     ensures { OnOk result (text.new.items ≡ text.old.items ++ type_text names.now ty.now) }
 {
     match ty {
@@ -41,14 +50,14 @@ fn write_type(
         }
         HackType::Shape { fields, rest } => write_shape(alloc, names, fields, *rest, text),
         HackType::Class(name, arguments) => {
-            text.extend_from_slice(names.text_of(*name))?;
+            text.extend_from_slice(name_text(names, *name))?;
             if arguments.is_empty() {
                 return Ok(());
             }
             write_all(alloc, names, b"<", arguments, b", ", b">", text)
         }
         HackType::ClassParam(_, name) | HackType::FunParam(_, name) => {
-            Ok(text.extend_from_slice(names.text_of(*name))?)
+            Ok(text.extend_from_slice(name_text(names, *name))?)
         }
         HackType::Union(members) => write_all(alloc, names, b"(", members, b"|", b")", text),
         _ => Ok(text.extend_from_slice(word(ty))?),
@@ -88,7 +97,6 @@ fn write_around(
     behind: &[u8],
     text: &mut Vec<u8>,
 ) -> Result<(), NoMemory>
-    requires { AreNames (length names.now) ty.now }
     ensures { OnOk result (text.new.items ≡ text.old.items ++ before.now ++ type_text names.now ty.now ++ behind.now) }
 {
     text.extend_from_slice(before)?;
@@ -108,7 +116,6 @@ fn write_all(
     behind: &[u8],
     text: &mut Vec<u8>,
 ) -> Result<(), NoMemory>
-    requires { All (AreNames (length names.now)) types.now }
     ensures { OnOk result (text.new.items ≡ text.old.items ++ before.now ++ joined between.now (map (type_text names.now) types.now) ++ behind.now) }
 {
     text.extend_from_slice(before)?;
@@ -131,14 +138,13 @@ fn write_shape(
     rest: bool,
     text: &mut Vec<u8>,
 ) -> Result<(), NoMemory>
-    requires { All (λ field. (field.key < length names.now) × AreNames (length names.now) field.ty) fields.now }
     ensures { OnOk result (text.new.items ≡ text.old.items ++ shape_text names.now (map (on_type (type_text names.now)) fields.now) rest) }
 {
     let ordered = in_order(alloc, names, fields)?;
     text.extend_from_slice(b"shape(")?;
     let mut ahead: &[u8] = b"";
     for field in &ordered {
-        write_key(ahead, names.text_of(field.key), field.optional, text)?;
+        write_key(ahead, name_text(names, field.key), field.optional, text)?;
         write_type(alloc, names, &field.ty, text)?;
         ahead = b", ";
     }
@@ -151,12 +157,11 @@ fn in_order<'a>(
     names: &'a Names,
     fields: &'a Fields<HackType>,
 ) -> Result<Vec<&'a Field<HackType>>, NoMemory>
-    requires { All (λ field. field.key < length names.now) fields.now }
     ensures { IfOk result (λ ordered. map (λ field. field.now) ordered.items ≡ by_key names.now fields.now) }
 {
     let mut placed = BTreeMap::new(alloc);
     for field in fields.as_slice() {
-        placed.insert(names.text_of(field.key), field)?;
+        placed.insert(name_text(names, field.key), field)?;
     }
     Ok(placed.into_values().collect(alloc)?)
 }

@@ -1,7 +1,6 @@
 use Rattle.std.proofs.Common.{rules, ◌++◌, codes, length, map, drop, sym, ap, subst, ◌∙◌, ◌+◌, [], inl, inr, arith, ℕ, List, Bor}
-use Rattle.hack_types.specs.TypeText.{field_text, joined, rest_text, type_text, AreNames}
+use Rattle.hack_types.specs.TypeText.{field_text, joined, rest_text, type_text}
 use Rattle.hack_types.specs.formers.fields.Fields.{on_type}
-use Rattle.hack_types.proofs.NamesInTypes.{in_option, in_vector, in_keyset, in_dict_key, in_dict_value, in_shape, in_class_name, in_class, in_class_param, in_fun_param, in_union}
 use Rattle.hack_types.proofs.FieldOrder.{inside}
 use Rattle.hack_types.proofs.TextLemmas.{around, as_keyset, as_option, as_union, as_vector, class_written, dict_written, dropped, field_written, joined-spread, onto, pieces, shape_written, spread, taken}
 use Rattle.hack_types.specs.declared.fields.Field.{Field}
@@ -21,47 +20,6 @@ write_all-loop-ty-preserved t c =
     ∙ taken old c.loop-ty.ahead.now c.args.between.now (text c.ty-item.result) more
     ∙ ap (λ texts. old ++ spread c.loop-ty.ahead.now c.args.between.now texts) (sym (dropped text items c.loop-ty.ty-index c.ty-item.result c.loop-ty-test.true c.ty-item.is))
     ∙ c.loop-ty.invariant
-
-pub write_type-write_around-requires : goal.write_type-write_around-requires
-write_type-write_around-requires t c =
-    (search (rules, the_lemmas), subst (AreNames (length c.args.names.now)) (sym c.get.ensures) (in_option _ c.args.ty.now c.in-Option.inside c.in-Option.is c.requires))
-
-pub write_type-write_around-requires-in-Vector : goal.write_type-write_around-requires-in-Vector
-write_type-write_around-requires-in-Vector t c =
-    (search (rules, the_lemmas), subst (AreNames (length c.args.names.now)) (sym c.get-in-Vector.ensures) (in_vector _ c.args.ty.now c.in-Vector.item c.in-Vector.is c.requires))
-
-pub write_type-write_around-requires-in-Keyset : goal.write_type-write_around-requires-in-Keyset
-write_type-write_around-requires-in-Keyset t c =
-    (search (rules, the_lemmas), subst (AreNames (length c.args.names.now)) (sym c.get-in-Keyset.ensures) (in_keyset _ c.args.ty.now c.in-Keyset.item c.in-Keyset.is c.requires))
-
-pub write_type-write_around-requires-in-Dict : goal.write_type-write_around-requires-in-Dict
-write_type-write_around-requires-in-Dict t c =
-    (search (rules, the_lemmas), subst (AreNames (length c.args.names.now)) (sym c.get-in-Dict.ensures) (in_dict_key _ c.args.ty.now c.in-Dict.key c.in-Dict.value c.in-Dict.is c.requires))
-
-pub write_type-write_around-requires-in-Dict-2 : goal.write_type-write_around-requires-in-Dict-2
-write_type-write_around-requires-in-Dict-2 t c =
-    (search (rules, the_lemmas), subst (AreNames (length c.args.names.now)) (sym c.get-in-Dict-2.ensures) (in_dict_value _ c.args.ty.now c.in-Dict.key c.in-Dict.value c.in-Dict.is c.requires))
-
-pub write_type-write_shape-requires : goal.write_type-write_shape-requires
-write_type-write_shape-requires t c =
-    (search (rules, the_lemmas), in_shape _ c.args.ty.now c.in-Shape.fields c.in-Shape.rest c.in-Shape.is c.requires)
-
-pub write_type-text_of-requires : goal.write_type-text_of-requires
-write_type-text_of-requires t c = in_class_name _ c.args.ty.now c.in-Class.name c.in-Class.arguments c.in-Class.is c.requires
-
-pub write_type-write_all-requires : goal.write_type-write_all-requires
-write_type-write_all-requires t c =
-    (search (rules, the_lemmas), in_class _ c.args.ty.now c.in-Class.name c.in-Class.arguments c.in-Class.is c.requires)
-
-pub write_type-write_all-requires-in-Union : goal.write_type-write_all-requires-in-Union
-write_type-write_all-requires-in-Union t c =
-    (search (rules, the_lemmas), in_union _ c.args.ty.now c.in-Union.members c.in-Union.is c.requires)
-
-pub write_type-text_of-requires-in-ClassParam : goal.write_type-text_of-requires-in-ClassParam
-write_type-text_of-requires-in-ClassParam t c = elim c.in-ClassParam.is [
-  | inl a ↦ in_class_param _ c.args.ty.now a.0 c.in-ClassParam.name a.1 c.requires
-  | inr b ↦ in_fun_param _ c.args.ty.now b.0 c.in-ClassParam.name b.1 c.requires
-]
 
 pub write_type-returns-in-Option : goal.write_type-returns-in-Option
 write_type-returns-in-Option t c = onto c.write_around.result _ _ _
@@ -85,7 +43,7 @@ write_type-returns-in_ok-write_around-in-Dict t c = onto c.write_around-in-Dict-
 
 pub write_type-returns-else-is_empty : goal.write_type-returns-else-is_empty
 write_type-returns-else-is_empty t c = onto c.write_all.result _ _ _
-    (class_written c.args.names.now c.args.ty.now c.args.text.now.items _ _ c.in-Class.name c.in-Class.arguments c.in-Class.is c.text_of.ensures
+    (class_written c.args.names.now c.args.ty.now c.args.text.now.items _ _ c.in-Class.name c.in-Class.arguments c.in-Class.is c.name_text.ensures
     (search rules) c.in_ok-extend_from_slice-in-Class.ensures.items) c.write_all.ensures
 
 pub write_type-returns-in-Union : goal.write_type-returns-in-Union
@@ -97,17 +55,11 @@ pub write_shape-loop-field-init : goal.write_shape-loop-field-init
 write_shape-loop-field-init t c =
     ap (λ texts. c.extend_from_slice.new.self.items ++ texts) (sym (joined-spread (codes ", ") (pieces c.args.names.now c.deref-field-items.result.now c.args.rest)))
 
-pub write_shape-text_of-requires : goal.write_shape-text_of-requires
-write_shape-text_of-requires t c =
-    let at = inside _ c.args.names.now c.args.fields.now c.in_ok-ordered.ordered.items c.deref-field-items.result.now c.loop-field.field-index c.field-item.result
-    c.requires c.in_ok-ordered.ensures c.deref-field-items.ensures.value c.loop-field-test.true c.field-item.is in
-    at.0.0
-
 pub write_shape-write_type-requires : goal.write_shape-write_type-requires
 write_shape-write_type-requires t c =
-    let at = inside _ c.args.names.now c.args.fields.now c.in_ok-ordered.ordered.items c.deref-field-items.result.now c.loop-field.field-index c.field-item.result
-    c.requires c.in_ok-ordered.ensures c.deref-field-items.ensures.value c.loop-field-test.true c.field-item.is in
-    (omega (arith, c.decreases, at.1), at.0.1)
+    let at = inside c.args.names.now c.args.fields.now c.in_ok-ordered.ordered.items c.deref-field-items.result.now c.loop-field.field-index c.field-item.result
+    c.in_ok-ordered.ensures c.deref-field-items.ensures.value c.loop-field-test.true c.field-item.is in
+    omega (arith, c.decreases, at)
 
 pub write_shape-loop-field-preserved : goal.write_shape-loop-field-preserved
 write_shape-loop-field-preserved t c =
@@ -118,7 +70,7 @@ write_shape-loop-field-preserved t c =
     let more = map text (drop (c.loop-field.field-index + 1) items) ++ rest_text c.args.rest in
     let old = c.loop-field.text.items in
     ap (λ written. written ++ spread (codes ", ") (codes ", ") more)
-    (c.in_ok-write_type.ensures ∙ ap (λ written. written ++ type_text names field.now.ty) c.in_ok-write_key.ensures ∙ field_written names old c.loop-field.ahead.now c.text_of.result.now field.now c.text_of.ensures)
+    (c.in_ok-write_type.ensures ∙ ap (λ written. written ++ type_text names field.now.ty) c.in_ok-write_key.ensures ∙ field_written names old c.loop-field.ahead.now c.name_text.result.now field.now c.name_text.ensures)
     ∙ taken old c.loop-field.ahead.now (codes ", ") (text field) more
     ∙ ap (λ texts. old ++ spread c.loop-field.ahead.now (codes ", ") (texts ++ rest_text c.args.rest)) (sym (dropped text items c.loop-field.field-index field c.loop-field-test.true c.field-item.is))
     ∙ c.loop-field.invariant

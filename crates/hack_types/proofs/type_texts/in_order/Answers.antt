@@ -7,7 +7,7 @@ use Rattle.hack_types.proofs.type_texts.in_order.Goals as goal
 
 pub loop-field-preserved : goal.loop-field-preserved
 loop-field-preserved c = ap (map (read c.args.names.now)) c.in_ok-insert.ensures.entries
-    ∙ placed_more c.args.names.now _ c.loop-field.field-index c.loop-field.placed.entries c.text_of.result _ c.loop-field-test.true c.text_of.ensures c.field-item.is c.loop-field.invariant
+    ∙ placed_more c.args.names.now _ c.loop-field.field-index c.loop-field.placed.entries c.name_text.result _ c.loop-field-test.true c.name_text.ensures c.field-item.is c.loop-field.invariant
 
 pub returns : goal.returns
 returns c =
