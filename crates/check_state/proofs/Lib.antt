@@ -9,3 +9,4 @@ pub mod Listed
 pub mod Reported
 pub mod Standing
 pub mod Sums
+pub mod Said

@@ -1,9 +1,12 @@
 -- What a check finds in files: facts about one map of files, whatever edits made it (docs/language.md, Reports and First
 -- units). A function here is a first unit.
-use Rattle.std.specs.Prelude.{◌≡◌, ◌≢◌, ◌⊎◌, ◌<◌, ℕ, List, [], ◌++◌, Some, slice_get, codes}
+use Rattle.std.specs.Prelude.{◌≡◌, ◌≢◌, ◌⊎◌, ◌<◌, ℕ, List, [], Some, slice_get}
 use Rattle.std.specs.FinMap.{get}
 use Rattle.std.specs.declared.cmp.Ordering.TheVariants.{Less}
 use Rattle.hack_base.specs.Files.{Files, byte_order}
+use Rattle.hack_codes.specs.declared.code.Code.TheVariants as code
+use Rattle.hack_diag.specs.Messages.{diag}
+use Rattle.hack_diag.specs.Texts as text
 use Rattle.hack_types.specs.declared.diag.Diag.{Diag}
 use Rattle.hack_types.specs.declared.diag.FileDiag.{FileDiag}
 use Rattle.hack_types.specs.declared.place.Place.{Place}
@@ -61,11 +64,11 @@ IsUnbound files (OfCall called) name = (called ≡ name) × ((result : Primitive
 
 -- 4001: the type of what is returned isn't the result that the function states
 abbrev pub mismatch : Function → Primitive → Diag
-mismatch f found = record { at = f.at; code = 4001; text = codes "expected " ++ type_text f.result ++ codes ", found " ++ type_text found }
+mismatch f found = diag f.at code.Expected (text.expected (type_text f.result) (type_text found))
 
 -- 4002: no file declares the called function
 abbrev pub unbound : Function → List ℕ → Diag
-unbound f name = record { at = f.at; code = 4002; text = codes "unbound function " ++ name }
+unbound f name = diag f.at code.UnboundFunction (text.unbound_function name)
 
 -- a finding in one function
 abbrev pub IsUnitFinding : Files → Function → Diag → Type 0
@@ -75,7 +78,7 @@ IsUnitFinding files f d =
 
 -- 2001: another function of its name counts
 abbrev pub taken : Function → Diag
-taken f = record { at = f.name_at; code = 2001; text = codes "name " ++ f.name ++ codes " is already declared" }
+taken f = diag f.name_at code.NameTaken (text.name_taken f.name)
 
 -- ---- the report
 

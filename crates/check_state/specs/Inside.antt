@@ -1,10 +1,15 @@
 -- What a check of a state finds, step by step. No public clause names these.
-use Rattle.std.specs.Prelude.{◌==◌, ◌&&◌, ◌+◌, if◌then◌else◌, ℕ, List, [], ◌∷◌, ◌++◌, Bool, true, false, Option, None, Some, slice_get, codes}
+use Rattle.std.specs.Prelude.{◌==◌, ◌&&◌, ◌+◌, if◌then◌else◌, ℕ, List, [], ◌∷◌, ◌++◌, Bool, true, false, Option, None, Some, slice_get}
 use Rattle.std.specs.BTreeMap as tree
 use Rattle.std.specs.Str.{bytes_eq}
 use Rattle.hack_base.specs.Files.{byte_order}
+use Rattle.hack_codes.specs.declared.code.Code.TheVariants as code
+use Rattle.hack_diag.specs.Messages.{diag}
+use Rattle.hack_diag.specs.Texts as text
 use Rattle.hack_types.specs.declared.diag.Diag.{Diag}
 use Rattle.hack_types.specs.declared.diag.FileDiag.{FileDiag}
+use Rattle.hack_types.specs.declared.hack_type.HackType.{HackType}
+use Rattle.hack_types.specs.declared.hack_type.HackType.TheVariants as type
 use Rattle.hack_types.specs.declared.ids.Kind.TheVariants.{Func}
 use Rattle.hack_types.specs.declared.ids.SymbolId.{SymbolId}
 use Rattle.hack_names.specs.Declarations.{Declaration, winner, losers}
@@ -62,6 +67,11 @@ is_there file index (Some d) = bytes_eq d.file file && (d.head.index == index)
 
 -- ---- one unit
 
+-- the type that a primitive is
+abbrev pub type_of : Primitive → HackType
+type_of Int = type.Int
+type_of Str = type.Str
+
 abbrev pub type_found : State → Returned → Option Primitive
 type_found state (Literal primitive) = Some primitive
 type_found state (Call name) = result_at state name
@@ -79,7 +89,7 @@ same_type Str Str = true
 
 -- 4001, as a unit gives it
 abbrev pub mismatch_diag : FirstUnit → Primitive → Diag
-mismatch_diag x found = record { at = x.at; code = 4001; text = codes "expected " ++ type_text x.result ++ codes ", found " ++ type_text found }
+mismatch_diag x found = diag x.at code.Expected (text.expected (type_text x.result) (type_text found))
 
 -- the finding in a unit whose value has this type, if it has one
 abbrev pub finding_for : List (List ℕ) → FirstUnit → Option Primitive → Option Diag
@@ -109,7 +119,7 @@ parsed_findings state file (Fault place code) = record { file = file; diag = fau
 
 -- what is said of a declaration of a file that doesn't count
 abbrev pub taken_diag : List (List ℕ) → Declaration → Diag
-taken_diag names d = record { at = d.head.name_at; code = 2001; text = codes "name " ++ named names d.head.symbol.name ++ codes " is already declared" }
+taken_diag names d = diag d.head.name_at code.NameTaken (text.name_taken (named names d.head.symbol.name))
 
 -- nothing is said of the builtin text
 abbrev pub taken_finding : List (List ℕ) → List ℕ → Declaration → List FileDiag

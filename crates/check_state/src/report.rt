@@ -105,21 +105,28 @@ impl State {
         ensures { IfOk result (λ found. found
             ≡ finding_for self.now.names unit.now (type_found self.now unit.now.returned)) }
     {
-        match self.type_found(alloc, unit.returned)? {
-            None => Ok(Some(unbound(alloc, &self.names, unit)?)),
-            Some(found) if found == unit.result => Ok(None),
-            Some(found) => Ok(Some(mismatch(alloc, unit, found)?)),
+        match unit.returned {
+            Returned::Literal(found) => self.judged(alloc, unit, found),
+            Returned::Call(name) => match self.result_at(alloc, name)? {
+                None => Ok(Some(unbound(alloc, &self.names, unit, name)?)),
+                Some(found) => self.judged(alloc, unit, found),
+            },
         }
     }
 
-    // The type of what is returned, if it is known.
-    fn type_found(&self, alloc: Global, returned: Returned) -> Result<Option<Primitive>, NoMemory>
-        ensures { IfOk result (λ found. found ≡ type_found self.now returned) }
+    // The finding in a unit that counts and returns a value of this type.
+    fn judged(
+        &self,
+        alloc: Global,
+        unit: &FirstUnit,
+        found: Primitive,
+    ) -> Result<Option<Diag>, NoMemory>
+        ensures { IfOk result (λ diag. diag ≡ finding_for self.now.names unit.now (Some found)) }
     {
-        match returned {
-            Returned::Literal(primitive) => Ok(Some(primitive)),
-            Returned::Call(name) => self.result_at(alloc, name),
+        if found == unit.result {
+            return Ok(None);
         }
+        Ok(Some(mismatch(alloc, &self.names, unit, found)?))
     }
 
     // The result of the function of this name that counts.

@@ -1,103 +1,80 @@
 // What diagnostics say.
 ghost use Rattle.std.specs.Prelude.{◌≡◌, IfOk};
-ghost use Rattle.hack_first.specs.Functions.{function_of, named, type_text};
+ghost use Rattle.hack_first.specs.Functions.{function_of, named};
 ghost use Rattle.check_state.specs.Faults.{fault_diag};
 ghost use Rattle.check_state.specs.Findings.{unbound};
-ghost use Rattle.check_state.specs.Inside.{called, mismatch_diag, taken_diag};
+ghost use Rattle.check_state.specs.Inside.{mismatch_diag, taken_diag, type_of};
 
-use hack_base::Bytes;
-use hack_first::{FirstUnit, Primitive, Returned};
+use hack_codes::Code;
+use hack_diag::{
+    expected, int_too_large, name_taken, no_token, too_deep, unbound_function, unexpected_end,
+    unexpected_token,
+};
+use hack_first::{FirstUnit, Primitive};
 use hack_names::UnitRef;
-use hack_types::{Diag, NameId, Names, NoMemory, Place};
+use hack_types::{Diag, HackType, NameId, Names, NoMemory, Place};
 use std::alloc::Global;
 
-/// 1001 to 1005: the fault of a file that has no tree.
-pub(crate) fn fault(alloc: Global, place: Place, code: u16) -> Result<Diag, NoMemory>
-    ensures { IfOk result (λ diag. diag ≡ fault_diag place code) }
+/// The fault of a file that has no tree, by its number.
+pub(crate) fn fault(alloc: Global, place: Place, number: u16) -> Result<Diag, NoMemory>
+    ensures { IfOk result (λ diag. diag ≡ fault_diag place number) }
 {
-    let text = match code {
-        1001 => "no token starts here",
-        1002 => "unexpected token",
-        1003 => "integer literal above 9223372036854775807",
-        1004 => "nesting above 128",
-        _ => "unexpected end of file",
-    };
-    Ok(Diag {
-        at: place,
-        code,
-        text: Bytes::copy_of(alloc, text.as_bytes())?,
-    })
+    if number == Code::NoToken.number() {
+        no_token(alloc, place)
+    } else if number == Code::UnexpectedToken.number() {
+        unexpected_token(alloc, place)
+    } else if number == Code::IntTooLarge.number() {
+        int_too_large(alloc, place)
+    } else if number == Code::TooDeep.number() {
+        too_deep(alloc, place)
+    } else {
+        unexpected_end(alloc, place)
+    }
 }
 
-/// 2001: another function of its name counts.
+/// Another function of its name counts.
 pub(crate) fn taken(alloc: Global, names: &Names, unit: &UnitRef) -> Result<Diag, NoMemory>
     ensures { IfOk result (λ diag. diag ≡ taken_diag names.now unit.now) }
 {
-    let mut text = Vec::from_slice(alloc, b"name ")?;
-    text.extend_from_slice(text_of(names, unit.head.symbol.name))?;
-    text.extend_from_slice(b" is already declared")?;
-    Ok(Diag {
-        at: unit.head.name_at,
-        code: 2001,
-        text: Bytes::from_vec(text),
-    })
+    name_taken(alloc, names, unit.head.name_at, unit.head.symbol.name)
 }
 
-/// 4001: the type of what is returned isn't the result that the function states.
-pub(crate) fn mismatch(alloc: Global, unit: &FirstUnit, found: Primitive) -> Result<Diag, NoMemory>
+/// The type of what is returned isn't the result that the function states.
+pub(crate) fn mismatch(
+    alloc: Global,
+    names: &Names,
+    unit: &FirstUnit,
+    found: Primitive,
+) -> Result<Diag, NoMemory>
     ensures { IfOk result (λ diag. diag ≡ mismatch_diag unit.now found) }
 {
-    let expected = type_text(unit.result);
-    let found = type_text(found);
-    let text = format!(in alloc; "expected {expected}, found {found}")?;
-    Ok(Diag {
-        at: unit.at,
-        code: 4001,
-        text: Bytes::from_vec(text.into_bytes()),
-    })
+    let wanted = type_of(unit.result);
+    let found = type_of(found);
+    let diag = expected(alloc, names, unit.at, &wanted, &found);
+    drop(wanted);
+    drop(found);
+    diag
 }
 
-/// 4002: no file declares the called function.
-pub(crate) fn unbound(alloc: Global, names: &Names, unit: &FirstUnit) -> Result<Diag, NoMemory>
+/// No file declares the function of this name, which the unit calls.
+pub(crate) fn unbound(
+    alloc: Global,
+    names: &Names,
+    unit: &FirstUnit,
+    name: NameId,
+) -> Result<Diag, NoMemory>
     ensures { IfOk result (λ diag. diag
-        ≡ unbound (function_of names.now unit.now) (called names.now unit.now.returned)) }
+        ≡ unbound (function_of names.now unit.now) (named names.now name)) }
 {
-    let mut text = Vec::from_slice(alloc, b"unbound function ")?;
-    text.extend_from_slice(called(names, unit.returned))?;
-    Ok(Diag {
-        at: unit.at,
-        code: 4002,
-        text: Bytes::from_vec(text),
-    })
+    unbound_function(alloc, names, unit.at, name)
 }
 
-// How a type is written.
-fn type_text(primitive: Primitive) -> &'static str
-    ensures { result.now ≡ type_text primitive }
+// The type that a primitive is.
+fn type_of(primitive: Primitive) -> HackType
+    ensures { result ≡ type_of primitive }
 {
     match primitive {
-        Primitive::Int => "int",
-        Primitive::Str => "string",
-    }
-}
-
-// The text of the name that is called.
-fn called(names: &Names, returned: Returned) -> &[u8]
-    ensures { result.now ≡ called names.now returned }
-{
-    match returned {
-        Returned::Literal(_) => b"",
-        Returned::Call(name) => text_of(names, name),
-    }
-}
-
-// The text of a name.
-fn text_of(names: &Names, id: NameId) -> &[u8]
-    ensures { result.now ≡ named names.now id }
-{
-    if id.number() < names.count() {
-        names.text_of(id)
-    } else {
-        b""
+        Primitive::Int => HackType::Int,
+        Primitive::Str => HackType::Str,
     }
 }

@@ -7,7 +7,7 @@ use Rattle.hack_types.specs.declared.hack_type.HackType.TheOpen.{HackType-F}
 use Rattle.hack_types.specs.declared.place.Place.{Place}
 use Rattle.hack_rules.specs.Ends.{block, outside}
 use Rattle.hack_rules.specs.Expressions.{meaning_of}
-use Rattle.hack_rules.specs.Messages.{no_return}
+use Rattle.hack_diag.specs.Messages.{no_return}
 use Rattle.hack_rules.specs.Statements.{doing_of}
 use Rattle.hack_rules.specs.Variables.{Variables}
 use Rattle.hack_rules.specs.Walks.{Walk, ◌>>=◌, ◌>>◌, reads, expect, replace, unless}

@@ -10,7 +10,7 @@ use Rattle.hack_infer.specs.Filling.{Filling, filled_limited}
 use Rattle.hack_infer.specs.Matching.{match_params}
 use Rattle.hack_infer.specs.Solving.{solve}
 use Rattle.hack_rules.specs.Meanings.{Meaning}
-use Rattle.hack_rules.specs.Messages.{other_count}
+use Rattle.hack_diag.specs.Messages.{other_count}
 use Rattle.hack_rules.specs.Walks.{Walk, ◌>>=◌, ◌>>◌, pure, reads, expect, unless, each, for_pairs}
 use Rattle.hack_rules.specs.WrittenTypes.{Argument, expect_within}
 

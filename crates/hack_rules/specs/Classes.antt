@@ -17,7 +17,7 @@ use Rattle.hack_sub.specs.Knowing.{is_trait, parameters_by}
 use Rattle.hack_sub.specs.Parts.{name_of}
 use Rattle.hack_sub.specs.Scopes.{class_type}
 use Rattle.hack_sub.specs.declared.scope.Scope.{Scope}
-use Rattle.hack_rules.specs.Messages.{not_allowed, trait_as_type, unbound_type}
+use Rattle.hack_diag.specs.Messages.{not_allowed, trait_as_type, unbound_type}
 use Rattle.hack_rules.specs.Walks.{Walk, ◌>>=◌, ◌>>◌, pure, reads, report}
 
 -- what is declared, where that is a class, an interface or a trait

@@ -13,7 +13,7 @@ use Rattle.hack_sub.specs.Parts.{keyed_container}
 use Rattle.hack_rules.specs.Heads.{head_of}
 use Rattle.hack_infer.specs.Seeing.{seen_as}
 use Rattle.hack_rules.specs.Meanings.{Index}
-use Rattle.hack_rules.specs.Messages.{field_may_miss, may_be_null, no_field, not_indexed}
+use Rattle.hack_diag.specs.Messages.{field_may_miss, may_be_null, no_field, not_indexed}
 use Rattle.hack_rules.specs.Walks.{Walk, ◌>>=◌, ◌>>◌, pure, reads, expect, refuse, report}
 
 -- ---- as a value

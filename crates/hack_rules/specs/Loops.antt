@@ -9,7 +9,7 @@ use Rattle.hack_rules.specs.Ends.{Doing, Ends, Inside, ends_here}
 use Rattle.hack_rules.specs.Heads.{head_of}
 use Rattle.hack_infer.specs.Seeing.{seen_as}
 use Rattle.hack_rules.specs.Meanings.{Branches, Meaning}
-use Rattle.hack_rules.specs.Messages.{may_be_null, not_iterated, too_many_loops}
+use Rattle.hack_diag.specs.Messages.{may_be_null, not_iterated, too_many_loops}
 use Rattle.hack_rules.specs.Variables.{Variables, either, joined_with, widened}
 use Rattle.hack_rules.specs.Walks.{Walk, ◌>>=◌, ◌>>◌, pure, reads, assign, each, quietly, replace, report, variables}
 

@@ -27,7 +27,7 @@ use Rattle.hack_rules.specs.Classes.{ancestors_by, class_named, scope_class}
 use Rattle.hack_infer.specs.Filling.{filled_limited}
 use Rattle.hack_infer.specs.Seeing.{most_steps}
 use Rattle.hack_rules.specs.Heads.{head_of}
-use Rattle.hack_rules.specs.Messages.{Message, against_static, may_be_null, no_constant, no_method, no_property, not_visible}
+use Rattle.hack_diag.specs.Messages.{Message, against_static, may_be_null, no_constant, no_method, no_property, not_visible}
 use Rattle.hack_rules.specs.Walks.{Walk, ◌>>=◌, ◌>>◌, pure, reads, refuse, report, unless, each}
 use Rattle.hack_rules.specs.WrittenTypes.{Argument}
 

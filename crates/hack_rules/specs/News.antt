@@ -30,7 +30,7 @@ use Rattle.hack_rules.specs.Classes.{class_named, is_class_sort, mentioned, name
 use Rattle.hack_rules.specs.Lifting.{lifted}
 use Rattle.hack_rules.specs.Meanings.{Meaning, plain}
 use Rattle.hack_rules.specs.Members.{any_use, expect_usable}
-use Rattle.hack_rules.specs.Messages.{not_instantiable, other_arguments, too_big}
+use Rattle.hack_diag.specs.Messages.{not_instantiable, other_arguments, too_big}
 use Rattle.hack_rules.specs.Values.{assigned_in_all}
 use Rattle.hack_rules.specs.Walks.{Walk, ◌>>=◌, ◌>>◌, pure, reads, each, refuse, unless}
 use Rattle.hack_rules.specs.WrittenTypes.{Argument, Mention, expect_arguments, mention, names_of, whole_mention}

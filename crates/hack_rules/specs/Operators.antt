@@ -12,7 +12,7 @@ use Rattle.hack_decls.specs.DeclState.{Map}
 use Rattle.hack_sub.specs.IsBelow.{is_below}
 use Rattle.hack_sub.specs.Sub.{most_height}
 use Rattle.hack_sub.specs.declared.scope.Scope.{Scope}
-use Rattle.hack_rules.specs.Messages.{operator_refuses, sign_refuses}
+use Rattle.hack_diag.specs.Messages.{operator_refuses, sign_refuses}
 use Rattle.hack_rules.specs.Walks.{Walk, ◌>>=◌, pure, reads, refuse}
 
 -- what operators tell apart

@@ -15,7 +15,7 @@ use Rattle.hack_rules.specs.Ends.{Doing, Ends, Inside, block, either_end, ends_h
 use Rattle.hack_rules.specs.Expressions.{meaning_of}
 use Rattle.hack_rules.specs.Loops.{do_ends, for_ends, foreach_ends, while_ends}
 use Rattle.hack_rules.specs.Meanings.{Meaning, assigned_in_any}
-use Rattle.hack_rules.specs.Messages.{outside_loop}
+use Rattle.hack_diag.specs.Messages.{outside_loop}
 use Rattle.hack_rules.specs.Values.{assigned_in_all}
 use Rattle.hack_rules.specs.Variables.{Variables, either, joined, mixed_in, taking}
 use Rattle.hack_rules.specs.Walks.{Walk, ◌>>=◌, ◌>>◌, pure, reads, assign, each, expect, replace, unless, variables}

@@ -7,7 +7,7 @@ use Rattle.hack_types.specs.declared.hack_type.HackType.TheVariants.{Int}
 use Rattle.hack_types.specs.declared.place.Place.{Place}
 use Rattle.hack_rules.specs.Indices.{element, with_element}
 use Rattle.hack_rules.specs.Meanings.{Aim, Meaning, element as element_aim, other, plain, property, variable}
-use Rattle.hack_rules.specs.Messages.{not_assignable, undefined_variable}
+use Rattle.hack_diag.specs.Messages.{not_assignable, undefined_variable}
 use Rattle.hack_rules.specs.Operators.{Operation, assigning, operate}
 use Rattle.hack_rules.specs.Variables.{union_of_two}
 use Rattle.hack_rules.specs.Walks.{Walk, ◌>>=◌, ◌>>◌, pure, reads, assign as give, expect, refuse, report, variable_here}

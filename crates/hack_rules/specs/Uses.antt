@@ -14,7 +14,7 @@ use Rattle.hack_rules.specs.Classes.{referred, shown_name}
 use Rattle.hack_rules.specs.Indices.{element}
 use Rattle.hack_rules.specs.Meanings.{Aim, Index, Meaning, assigned_in_any, element as element_aim, plain, property}
 use Rattle.hack_rules.specs.Members.{StaticUse, any_use, constant_of, instance_alone, member_of, method_of, property_of, static_alone}
-use Rattle.hack_rules.specs.Messages.{unbound_function}
+use Rattle.hack_diag.specs.Messages.{unbound_function}
 use Rattle.hack_rules.specs.Targets.{read}
 use Rattle.hack_rules.specs.Values.{assigned_in_all}
 use Rattle.hack_rules.specs.Walks.{Walk, ◌>>=◌, pure, reads, refuse}

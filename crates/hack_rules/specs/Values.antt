@@ -25,7 +25,7 @@ use Rattle.hack_decls.specs.declared.folded.Folded.TheVariants as folded
 use Rattle.hack_rules.specs.Calls.{arguments_of}
 use Rattle.hack_rules.specs.Classes.{this_type, scope_class}
 use Rattle.hack_rules.specs.Meanings.{Branches, Meaning, no_aim, plain, plain_branches, variable as variable_aim}
-use Rattle.hack_rules.specs.Messages.{field_twice, not_allowed, unbound_constant}
+use Rattle.hack_diag.specs.Messages.{field_twice, not_allowed, unbound_constant}
 use Rattle.hack_rules.specs.Refining.{bare_branches, behind_as, tested_branches}
 use Rattle.hack_rules.specs.Targets.{look_up}
 use Rattle.hack_rules.specs.Walks.{Walk, ◌>>=◌, ◌>>◌, pure, reads, expect, for_each, refuse, replace, unless}

@@ -9,7 +9,7 @@ use Rattle.hack_decls.specs.DeclState.{Map}
 use Rattle.hack_sub.specs.IsBelow.{is_below}
 use Rattle.hack_sub.specs.Sub.{most_height}
 use Rattle.hack_sub.specs.declared.scope.Scope.{Scope}
-use Rattle.hack_rules.specs.Messages.{Message, expected}
+use Rattle.hack_diag.specs.Messages.{Message, diag_of, expected}
 use Rattle.hack_rules.specs.Variables.{Variables, type_in, with_variable}
 
 -- what stays the same in a body: the texts of names, and the scope
@@ -63,10 +63,6 @@ assign name ty = λ setting map state. (tt, record state { variables = with_vari
 -- the type that a variable has here
 unfoldable pub variable_here : ℕ → Walk (Option HackType)
 variable_here name = λ setting map state. (type_in state.variables name, state)
-
--- a message at a place, as a diagnostic
-abbrev pub diag_of : List (List ℕ) → Place → Message → Diag
-diag_of names at message = record { at = at; code = message.code; text = message.text names }
 
 -- a diagnostic goes behind those that stood
 unfoldable pub report : Place → Message → Walk (Unit {0})

@@ -29,7 +29,7 @@ use Rattle.hack_sub.specs.Knowing.{is_trait, parameters_by}
 use Rattle.hack_sub.specs.Scopes.{class_params_by}
 use Rattle.hack_sub.specs.Sub.{most_height}
 use Rattle.hack_sub.specs.declared.scope.Scope.{Scope}
-use Rattle.hack_rules.specs.Messages.{field_twice, not_allowed, other_arguments, out_of_bounds, too_big, trait_as_type, unbound_type}
+use Rattle.hack_diag.specs.Messages.{field_twice, not_allowed, other_arguments, out_of_bounds, too_big, trait_as_type, unbound_type}
 use Rattle.hack_rules.specs.Walks.{Walk, ◌>>=◌, ◌>>◌, pure, reads, report, unless, for_each, for_pairs}
 
 -- ---- bounds

@@ -1,0 +1,6 @@
+//! The numbers of all diagnostics.
+#![tactic(auto)]
+
+mod code;
+
+pub use code::Code;
