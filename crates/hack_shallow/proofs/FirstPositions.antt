@@ -1,9 +1,7 @@
 -- Where a name stands first in a list with one more name.
-use Rattle.std.proofs.Common.{◌≡◌, ◌==◌, ◌<◌, ◌≤◌, ◌+◌, ◌++◌, ◌∷◌, ℕ, suc, Bool, true, false, List, [], Option, Some, None, length, take, get_or, sym, ap, ◌∙◌, refl, if◌then◌else◌}
+use Rattle.std.proofs.Common.{◌≡◌, ◌==◌, ◌++◌, ◌∷◌, ℕ, suc, Bool, true, false, List, [], Option, Some, None, length, ap, ◌∙◌, refl, if◌then◌else◌}
 use Rattle.std.specs.Option.{option_map}
-use Rattle.std.proofs.lemmas.List.{take_more, map_push, length-take-le, length-map}
-use Rattle.hack_tree.specs.declared.declaration.TypeParameter.{TypeParameter}
-use Rattle.hack_shallow.specs.Scope.{first_at, names_of}
+use Rattle.hack_shallow.specs.Scope.{first_at}
 use Rattle.hack_shallow.specs.Positions.{first_by}
 
 further_by : (name index query : ℕ) (found : Option ℕ) → option_map suc (first_by name index query found) ≡ first_by name (suc index) query (option_map suc found)
@@ -22,11 +20,3 @@ later false name index query found more e = ap (option_map suc) e ∙ further_by
 pub first_at_push : (name query : ℕ) (names : List ℕ) → first_at query (names ++ name ∷ []) ≡ first_by name (length names) query (first_at query names)
 first_at_push name query [] = refl
 first_at_push name query (n ∷ names) = later (n == query) name (length names) query (first_at query names) (first_at query (names ++ name ∷ [])) (first_at_push name query names)
-
--- the names before the next item, and with it
-pub names_more : (list : List TypeParameter) (k : ℕ) (p : TypeParameter) → k < length list → p ≡ get_or list k p → names_of (take (k + 1) list) ≡ names_of (take k list) ++ p.name.name ∷ []
-names_more list k p below is =
-    ap names_of (take_more list k p below) ∙ map_push (λ q. q.name.name) (take k list) (get_or list k p) ∙ ap (λ q. names_of (take k list) ++ q.name.name ∷ []) (sym is)
-
-pub names_before : (list : List TypeParameter) (k : ℕ) → k ≤ length list → length (names_of (take k list)) ≡ k
-names_before list k below = length-map (take k list) (λ q. q.name.name) ∙ length-take-le k list below

@@ -8,7 +8,6 @@ use Rattle.hack_shallow.specs.declared.members.MemberSort.{MemberSort}
 use Rattle.hack_shallow.specs.declared.members.MemberSort.TheVariants as sort
 use Rattle.hack_shallow.specs.declared.members.MemberKey.{MemberKey}
 use Rattle.hack_shallow.specs.declared.members.Owner.{Owner as Inside}
-use Rattle.hack_shallow.specs.Scope.{names_of}
 use Rattle.hack_shallow.specs.Members.{Owner, with_members}
 
 abbrev pub sort_of : MemberKind → MemberSort
@@ -27,8 +26,8 @@ abbrev pub Puts : BTreeMap MemberKey Member → List Member → BTreeMap MemberK
 Puts before members after = (own : List Member) → before.entries ≡ entries_of own → after.entries ≡ entries_of (with_members own members)
 
 abbrev pub owner_of : Inside → Owner
-owner_of owner = record { name = owner.name; parameters = names_of owner.parameters.now.list.now }
+owner_of owner = record { name = owner.name; parameters = owner.parameters.now }
 
 -- outside a method no function's parameters stand
 abbrev pub AreNone : Inside → Type 0
-AreNone owner = owner.none.now.list.now ≡ []
+AreNone owner = owner.none.now ≡ []

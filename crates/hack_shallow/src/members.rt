@@ -24,9 +24,9 @@ pub(crate) struct Owner<'s> {
     /// Its name.
     pub name: NameId,
     /// Its type parameters.
-    pub parameters: &'s Parameters<'s>,
+    pub parameters: &'s Parameters,
     /// An empty list of them.
-    pub none: &'s Parameters<'s>,
+    pub none: &'s Parameters,
 }
 
 // Constants, then properties, then methods.
@@ -162,7 +162,7 @@ fn promote(
 
 impl<'s> Owner<'s> {
     // The scope of a method with these type parameters.
-    fn method_scope<'f>(&self, function: &'f Parameters<'f>) -> Scope<'s, 'f>
+    fn method_scope<'f>(&self, function: &'f Parameters) -> Scope<'s, 'f>
         ensures class { result.class ≡ self.now.parameters }
         ensures function { result.function ≡ function.entry }
     {

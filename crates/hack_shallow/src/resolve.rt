@@ -11,13 +11,13 @@ use sqlite_items::{Boxed, Items};
 use std::alloc::Global;
 use std::collections::BTreeMap;
 
-/// The type parameters around a written type.
+/// The type parameters around a written type (docs/language.md, Types and their texts).
 #[derive(Clone, Copy)]
-pub(crate) struct Scope<'c, 'f> {
+pub struct Scope<'c, 'f> {
     /// Those of the class or alias.
-    pub class: &'c Parameters<'c>,
+    pub class: &'c Parameters,
     /// Those of the function or method.
-    pub function: &'f Parameters<'f>,
+    pub function: &'f Parameters,
 }
 
 impl<'c, 'f> Scope<'c, 'f> {
@@ -35,8 +35,9 @@ impl<'c, 'f> Scope<'c, 'f> {
         Ok(limited(self.resolved_class(alloc, class)?))
     }
 
+    /// The type that is written, however large (docs/language.md, Types and their texts).
     #[cycle(resolved)]
-    fn resolved(&self, alloc: Global, written: &WrittenType) -> Result<HackType, NoMemory>
+    pub fn resolved(&self, alloc: Global, written: &WrittenType) -> Result<HackType, NoMemory>
         ensures { IfOk result (λ ty. ty ≡ spec.resolved (scope_of self.now) written.now) }
     {
         match written {
@@ -66,9 +67,10 @@ impl<'c, 'f> Scope<'c, 'f> {
         }
     }
 
-    // A parameter has no arguments, whatever is written.
+    /// The type that a name with its arguments is, however large. A parameter has no arguments, whatever is written
+    /// (docs/language.md, Types and their texts).
     #[cycle(resolved)]
-    fn resolved_class(&self, alloc: Global, class: &ClassType) -> Result<HackType, NoMemory>
+    pub fn resolved_class(&self, alloc: Global, class: &ClassType) -> Result<HackType, NoMemory>
         ensures { IfOk result (λ ty. ty ≡ spec.resolved_class (scope_of self.now) class.now) }
     {
         let name = class.name;
@@ -111,8 +113,8 @@ impl<'c, 'f> Scope<'c, 'f> {
     }
 }
 
-// The fields that stand under their keys.
-fn in_order(
+/// The fields that stand under their keys (docs/language.md, Types and their texts).
+pub fn in_order(
     alloc: Global,
     by_key: BTreeMap<NameId, (bool, HackType)>,
 ) -> Result<Fields<HackType>, NoMemory>
@@ -125,7 +127,8 @@ fn in_order(
     Ok(Fields::from_vec(fields))
 }
 
-fn primitive_type(primitive: Primitive) -> HackType
+/// The type that a keyword is (docs/language.md, Types and their texts).
+pub fn primitive_type(primitive: Primitive) -> HackType
     ensures { result ≡ spec.primitive_type primitive }
 {
     match primitive {
@@ -144,7 +147,8 @@ fn primitive_type(primitive: Primitive) -> HackType
     }
 }
 
-fn container_type(
+/// A container of elements of this type (docs/language.md, Types and their texts).
+pub fn container_type(
     alloc: Global,
     container: Container,
     element: HackType,
