@@ -1,3 +1,4 @@
+pub mod Behind
 pub mod Bodies
 pub mod Calls
 pub mod Chains
@@ -5,11 +6,11 @@ pub mod Classes
 pub mod Ends
 pub mod Expressions
 pub mod Heads
+pub mod Idle
 pub mod Indices
 pub mod Loops
 pub mod Meanings
 pub mod Members
-pub mod Messages
 pub mod News
 pub mod Operators
 pub mod Refining

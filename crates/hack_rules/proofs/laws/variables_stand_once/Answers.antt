@@ -1,0 +1,14 @@
+use Rattle.hack_rules.specs.Behind.{StillRises}
+use Rattle.hack_rules.proofs.Ended.{ends_of}
+use Rattle.hack_rules.proofs.Ends.{GoodEnds}
+use Rattle.hack_rules.proofs.Expressions.{goes_judged}
+use Rattle.hack_rules.proofs.Statements.{goes_statement}
+use Rattle.hack_rules.proofs.Steps.{Free, behind_of}
+use Rattle.hack_rules.proofs.laws.variables_stand_once.Goals as goal
+
+pub returns : goal.returns
+returns c = record {
+  expression = λ e. behind_of (λ base. Free) StillRises (λ base behind f. f.rises) (λ base. goes_judged e);
+  statement = λ s inside. behind_of GoodEnds StillRises (λ base behind f. f.rises) (λ base. goes_statement s inside);
+  ends = λ s inside. ends_of StillRises (λ base behind f. f.rises) (λ base. goes_statement s inside);
+}
