@@ -1,0 +1,4 @@
+pub mod Checks
+pub mod NamesKept
+pub mod WalkLaws
+pub mod inside
