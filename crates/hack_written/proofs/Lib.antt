@@ -1,0 +1,14 @@
+pub mod Headings
+pub mod Lists
+pub mod Loops
+pub mod Mentions
+pub mod Named
+pub mod Pairs
+pub mod ParameterNames
+pub mod Puts
+pub mod Resolving
+pub mod Rows
+pub mod SmallTypes
+pub mod Told
+pub mod Walking
+pub mod WholeTypes
