@@ -1,5 +1,5 @@
 // Copies of declarations. Each says that memory ran out where there is none.
-ghost use Rattle.std.specs.Prelude.{◌≡◌, IfOk, map};
+ghost use Rattle.std.specs.Prelude.{◌≡◌, IfOk};
 ghost use Rattle.hack_decls.specs.Picks.{heading_of};
 
 use crate::{Ancestor, ClassFolded, ClassHeading, Folded};

@@ -1,5 +1,5 @@
 -- What the code makes of the folded declarations of the parents is what the walk over all paths says.
-use Rattle.std.proofs.Common.{◌≡◌, ℕ, Bool, Some, sym, ap, subst, ◌∙◌, option_map}
+use Rattle.std.proofs.Common.{◌≡◌, Bool, Some, sym, ap, subst, ◌∙◌}
 use Rattle.hack_types.specs.MembersRise.{MembersRise}
 use Rattle.hack_types.specs.declared.ids.SymbolId.{SymbolId}
 use Rattle.hack_types.specs.declared.shallow.ClassSig.{ClassSig}
@@ -10,9 +10,9 @@ use Rattle.hack_decls.specs.declared.folded.ClassFolded.{ClassFolded}
 use Rattle.hack_decls.specs.declared.folded.Folded.{Folded}
 use Rattle.hack_decls.specs.declared.folded.Folded.TheVariants as folded
 use Rattle.hack_decls.specs.Names.{class_symbol}
-use Rattle.hack_fold.specs.Parents.{Shallows, parents}
+use Rattle.hack_fold.specs.Parents.{parents}
 use Rattle.hack_fold.specs.Line.{is_cyclic}
-use Rattle.hack_fold.specs.Walked.{FoldsTo, IsFolded, within}
+use Rattle.hack_fold.specs.Walked.{FoldsTo, IsFolded}
 use Rattle.hack_fold.specs.inside.FromParents.{from_parents}
 use Rattle.hack_fold.proofs.FoldLaw.{all_enough, class_folds}
 

@@ -4,7 +4,7 @@ ghost use Rattle.hack_types.specs.MembersRise.{MembersRise};
 ghost use Rattle.hack_types.specs.declared.hack_type.HackType.{out-HackType};
 ghost use Rattle.hack_decls.specs.Looks.{Keeps};
 ghost use Rattle.hack_decls.specs.declared.folded.Ancestor.{Ancestor};
-ghost use Rattle.hack_fold.specs.inside.FromParents.{Known, known, known_class, known_fits, member_in, origin_in};
+ghost use Rattle.hack_fold.specs.inside.FromParents.{known, known_class, known_fits, member_in, origin_in};
 ghost use Rattle.hack_fold.specs.inside.Gathered.{IsSound, so_far};
 ghost use Rattle.hack_fold.specs.inside.OneByOne.{fitting, inherited, with_parent, with_parents};
 ghost use Rattle.hack_fold.specs.Parents.{extends_sort, named_by, parents, placed, same_sort};

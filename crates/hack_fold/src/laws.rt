@@ -1,5 +1,5 @@
 // What follows from the definitions of lines and folded declarations.
-ghost use Rattle.std.specs.Prelude.{◌≡◌, ◌≤◌, ◌+◌, List, [], Option, Some, All, length, map, nat_eq};
+ghost use Rattle.std.specs.Prelude.{◌≡◌, ◌≤◌, ◌+◌, [], Option, Some, All, length, map, nat_eq};
 ghost use Rattle.std.specs.List.{IsDistinct};
 ghost use Rattle.hack_types.specs.MembersRise.{MembersRise};
 ghost use Rattle.hack_types.specs.declared.ids.SymbolId.{SymbolId};

@@ -6,12 +6,9 @@ ghost use Rattle.hack_types.specs.declared.hack_type.HackType.TheVariants.{Any};
 ghost use Rattle.hack_types.specs.formers.fields.Fields.{on_type};
 ghost use Rattle.hack_infer.specs.Filling.{applied, at_position, filled, filling_of, this_or};
 
-use hack_types::{Field, Fields, HackType, NoMemory, SubstStop, into_option, union_of};
+use hack_types::{Field, Fields, HackType, MOST_NODES, NoMemory, SubstStop, into_option, union_of};
 use sqlite_items::{Boxed, Items};
 use std::alloc::Global;
-
-/// How many nodes a type may have (docs/language.md, Types and their texts).
-pub(crate) const MOST_NODES: u32 = 256;
 
 /// What stands for type parameters and for `this` in a type; what has nothing here stays.
 #[derive(Clone, Copy)]

@@ -7,11 +7,10 @@ ghost use Rattle.hack_sub.specs.Parts.{name_of, option_inside, union_members};
 ghost use Rattle.hack_infer.specs.Seeing.{most_steps};
 ghost use Rattle.hack_infer.specs.WithoutNull.{alias_by, comes_to, coming_by, loses_null, members_by, named_by, option_by, plain_without, without_null, without_null_in};
 
-use crate::filling::MOST_NODES;
 use crate::sights::{MOST_STEPS, opened};
 use hack_decls::{DeclStop, Decls};
 use hack_sub::{name_of, option_inside, union_members};
-use hack_types::{HackType, NoMemory, union_of};
+use hack_types::{HackType, MOST_NODES, NoMemory, union_of};
 use std::alloc::Global;
 
 /// The type of what is of this type and isn't null (docs/language.md, Typing expressions, Heads): an alias is expanded at most sixteen

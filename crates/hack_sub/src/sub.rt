@@ -24,11 +24,8 @@ use crate::plain::{is_looked, is_plain};
 use crate::shapes::shapes;
 use crate::way::Way;
 use hack_decls::{DeclStop, Decls};
-use hack_types::HackType;
+use hack_types::{HackType, MOST_NODES};
 use std::alloc::Global;
-
-// How many nodes a type may have.
-const MOST_NODES: u32 = 256;
 
 // How high a tree may be.
 const MOST_HEIGHT: u32 = 16;

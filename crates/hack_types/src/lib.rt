@@ -30,6 +30,6 @@ pub use rising::{Members, NameSet};
 pub use shallow::{AliasSig, ClassSig, EnumSig, Member, MemberKind, Shallow, Sort, Visibility};
 pub use signature::{Param, Signature, TypeParam, Variance};
 pub use type_option::{into_option, option_of};
-pub use type_substitute::{SubstStop, limited, substitute};
+pub use type_substitute::{MOST_NODES, SubstStop, limited, substitute};
 pub use type_texts::{name_text, type_text};
 pub use type_union::union_of;

@@ -10,7 +10,7 @@ use sqlite_items::{Boxed, Items};
 use std::alloc::Global;
 
 /// How many nodes a type may have (docs/language.md, Types and their texts).
-const MOST_NODES: u32 = 256;
+pub const MOST_NODES: u32 = 256;
 
 /// Why there is no type with other types put into it.
 #[derive(Clone, Copy, Debug, PartialEq, Eq)]

@@ -19,14 +19,13 @@ use crate::reports::{report_field, report_this, report_trait, report_unbound};
 use hack_decls::{DeclStop, Decls, HeadingAnswer};
 use hack_shallow::{container_type, in_order, primitive_type};
 use hack_tree::{ClassType, Container, FieldType, WrittenType};
-use hack_types::{HackType, Kind, NameId, NoMemory, Place, Sort, SymbolId, TypeParam, into_option};
+use hack_types::{
+    HackType, Kind, MOST_NODES, NameId, NoMemory, Place, Sort, SymbolId, TypeParam, into_option,
+};
 use hack_walk::State;
 use sqlite_items::{Boxed, Items};
 use std::alloc::Global;
 use std::collections::BTreeMap;
-
-// How many nodes a type may have.
-const MOST_NODES: u32 = 256;
 
 /// The place of the first token.
 pub(crate) fn place_of(written: &WrittenType) -> Place

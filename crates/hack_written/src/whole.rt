@@ -18,12 +18,9 @@ use crate::reports::report_too_big;
 use hack_decls::{DeclStop, Decls};
 use hack_shallow::Scope;
 use hack_tree::{ClassType, WrittenType};
-use hack_types::{HackType, NoMemory, Place};
+use hack_types::{HackType, MOST_NODES, NoMemory, Place};
 use hack_walk::{Setting, State};
 use std::alloc::Global;
-
-// How many nodes a type may have.
-const MOST_NODES: u32 = 256;
 
 /// The type that a written type is, with its diagnostics: `_`, and 3006 at its first token, where it has more than 256 nodes; no bounds
 /// are tried in it then (docs/language.md, Written types). `EdgesFull` says that a lookup's note was refused, and `NoMemory` that

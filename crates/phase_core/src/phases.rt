@@ -1,10 +1,9 @@
 // The events that begin, end and share out the work of a phase.
 ghost use Rattle.std.specs.Prelude.{◌≡◌, ◌↔◌, IsTrue, IfOk, OnOk, replicate};
-ghost use Rattle.std.specs.Option.{option_map};
 ghost use Rattle.std.specs.FinMap as finite;
 ghost use Rattle.hack_types.specs.declared.ids.SymbolId.{SymbolId as Symbol};
 ghost use Rattle.phase_core.specs.declared.state.CoreWorker.TheVariants.{Idle};
-ghost use Rattle.phase_core.specs.States.{AllAreIdle, NoneIsClaimed, unclaimed, with_worker};
+ghost use Rattle.phase_core.specs.States.{NoneIsClaimed, unclaimed, with_worker};
 ghost use Rattle.phase_core.specs.Says.{Tells};
 ghost use Rattle.phase_core.specs.Phases.{MaySweep, Swept, MayStart, Started};
 ghost use Rattle.phase_core.specs.Phases.{IsJob, MayTake, Taken};

@@ -1,5 +1,5 @@
 // The events of a worker at its job.
-ghost use Rattle.std.specs.Prelude.{◌≡◌, ◌↔◌, IsTrue, IfOk, Contains, Some};
+ghost use Rattle.std.specs.Prelude.{◌≡◌, ◌↔◌, IsTrue, IfOk, Some};
 ghost use Rattle.std.specs.FinMap as finite;
 ghost use Rattle.phase_core.specs.World.{Names};
 ghost use Rattle.phase_core.specs.States.{AtWork};
