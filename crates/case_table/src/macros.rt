@@ -10,3 +10,11 @@ macro_rules! cases {
         $crate::Cases::new(concat!($first $(, " ", $key)*), [$value $(, $other)*])
     };
 }
+
+/// The table of these rows, as `Grid::new` makes it: `grid!([1, 2], [3, 4])`. It goes inside a body.
+#[macro_export]
+macro_rules! grid {
+    ($([$($cell:expr),* $(,)?]),* $(,)?) => {
+        $crate::Grid::new([$([$($cell),*]),*])
+    };
+}
