@@ -3,6 +3,7 @@ use Rattle.std.specs.Prelude.{◌≡◌, ◌<◌, ◌≤◌, ◌+◌, ℕ, Bool,
 use Rattle.std.specs.List.{position_from}
 use Rattle.std.specs.Str.{bytes_eq}
 use Rattle.case_table.specs.Cases.{value_of}
+use Rattle.hack_codes.specs.Numbers.{number}
 use Rattle.hack_lexer.specs.Bytes.{is_digit, is_octal, is_binary, is_hexadecimal, is_word_byte, is_in_line}
 use Rattle.hack_lexer.specs.Forms.{sort_of, sort_of_mark, keywords, marks}
 use Rattle.hack_lexer.specs.Tokens.{sort_at, blank_at, IsLongest, IsInRange, IsFaultAt}
@@ -68,4 +69,4 @@ HasMarks table = (text : List ℕ) → value_of table text ≡ position_from (by
 abbrev pub IsStep : List ℕ → ℕ → Step → Type 0
 IsStep bytes index (step.Blank len) = (blank_at index (drop index bytes) ≡ Some len) × (0 < len) × (index + len ≤ length bytes)
 IsStep bytes index (step.Taken t) = (t.at ≡ index) × (0 < t.len) × IsLongest bytes t × IsInRange bytes t
-IsStep bytes index (step.Fault code) = IsFaultAt bytes index code
+IsStep bytes index (step.Fault code) = IsFaultAt bytes index (number code)

@@ -4,6 +4,8 @@ use Rattle.std.specs.Prelude.{◌≡◌, ◌⊎◌, ◌&&◌, ◌==◌, ◌<◌,
 use Rattle.std.specs.List.{prefix_len, starts_with}
 use Rattle.std.specs.Option.{option_map}
 use Rattle.std.specs.Str.{bytes_eq}
+use Rattle.hack_codes.specs.Numbers.{number}
+use Rattle.hack_codes.specs.declared.code.Code.TheVariants as code
 use Rattle.hack_types.specs.Places.{place_of}
 use Rattle.hack_types.specs.declared.place.Place.{Place}
 use Rattle.hack_lexer.specs.Bytes.{is_space, is_in_line, is_word_byte}
@@ -104,7 +106,7 @@ pub record IsTooLarge (bytes : List ℕ) (index : ℕ) : Type 0 where
   pub above : 2 ^ 63 ≤ value_of_int (text_of bytes int)
 
 abbrev pub IsFaultAt : List ℕ → ℕ → ℕ → Type 0
-IsFaultAt bytes index code = ((code ≡ 1001) × IsStuck bytes index) ⊎ ((code ≡ 1003) × IsTooLarge bytes index)
+IsFaultAt bytes index found = ((found ≡ number code.NoToken) × IsStuck bytes index) ⊎ ((found ≡ number code.IntTooLarge) × IsTooLarge bytes index)
 
 -- the first fault of the bytes has this place and code: what stands before it is blanks and tokens
 pub record IsFault (bytes : List ℕ) (place : Place) (code : ℕ) : Type 0 where

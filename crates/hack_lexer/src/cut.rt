@@ -34,7 +34,7 @@ pub fn tokens(alloc: Global, bytes: &[u8]) -> Result<Vec<Token>, LexStop>
             Step::Fault(code) => {
                 return Err(LexStop::Fault {
                     place: place_of(bytes, at),
-                    code,
+                    code: code.number(),
                 });
             }
         }

@@ -1,5 +1,5 @@
 // Ints and floats at the front of bytes.
-ghost use Rattle.std.specs.Prelude.{◌≡◌, ◌<◌, ◌||◌, ◌==◌, ℕ, true, length, slice_index};
+ghost use Rattle.std.specs.Prelude.{◌≡◌, ◌<◌, ◌||◌, ◌==◌, true, length, slice_index};
 ghost use Rattle.hack_lexer.specs.Bytes.{is_digit};
 ghost use Rattle.hack_lexer.specs.Forms.{are_some, is_hexadecimal_mark, is_binary_mark, is_behind_zero, is_int, is_signed, is_exponent, is_end, is_fraction, is_behind_whole, is_float};
 ghost use Rattle.hack_lexer.specs.Scan.{is_in, IsLongestPass, HasLongest};

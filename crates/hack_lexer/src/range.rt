@@ -1,5 +1,5 @@
 // The numbers that ints spell, and the largest one.
-ghost use Rattle.std.specs.Prelude.{◌≡◌, ◌<◌, ◌≤◌, ◌^◌, ◌↔◌, IsTrue, length};
+ghost use Rattle.std.specs.Prelude.{◌≡◌, ◌<◌, ◌≤◌, ◌^◌, ◌↔◌, IsTrue};
 ghost use Rattle.hack_lexer.specs.Forms.{digit_of, number_of, value_of_int, value_behind_zero};
 
 use crate::number::{is_binary_mark, is_hexadecimal_mark};

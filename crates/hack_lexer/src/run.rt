@@ -1,7 +1,7 @@
 // Runs of bytes of one class.
-ghost use Rattle.std.specs.Prelude.{◌≡◌, ◌≤◌, length, IfOk};
+ghost use Rattle.std.specs.Prelude.{◌≡◌, ◌≤◌, length};
 ghost use Rattle.std.specs.List.{prefix_len};
-ghost use Rattle.hack_lexer.specs.Bytes.{is_digit, is_octal, is_binary, is_hexadecimal, is_word_start, is_word_byte, is_space, is_in_line, is_key_byte};
+ghost use Rattle.hack_lexer.specs.Bytes.{is_digit, is_hexadecimal, is_word_start, is_word_byte, is_space, is_key_byte};
 ghost use Rattle.hack_lexer.specs.Scan.{is_in};
 
 /// A class of bytes.

@@ -1,5 +1,5 @@
 // What stands at an index of the bytes of a file.
-ghost use Rattle.std.specs.Prelude.{◌≡◌, ◌≤◌, ◌<◌, ◌^◌, length, drop};
+ghost use Rattle.std.specs.Prelude.{◌≤◌, ◌<◌, ◌^◌, length, drop};
 ghost use Rattle.case_table.specs.Entries.{entries};
 ghost use Rattle.hack_lexer.specs.Scan.{HasKeywords, HasMarks, IsFound, IsStep};
 ghost use Rattle.hack_lexer.specs.Tokens.{BeginsNoBlank};
@@ -9,12 +9,13 @@ use crate::blank::blank_len;
 use crate::range::is_in_range;
 use crate::scan::{Found, token_at};
 use case_table::Cases;
+use hack_codes::Code;
 
 /// A blank of so many bytes, a token or a fault.
 pub(crate) enum Step {
     Blank(usize),
     Taken(Token),
-    Fault(u16),
+    Fault(Code),
 }
 
 // What stands at this index.
@@ -35,11 +36,11 @@ pub(crate) fn step_at(
         Some(len) => Step::Blank(len),
         None => {
             if rest.starts_with(b"/*") {
-                return Step::Fault(1001);
+                return Step::Fault(Code::NoToken);
             }
             match token_at(keywords, marks, rest) {
                 Some(found) => taken(bytes, index, found),
-                None => Step::Fault(1001),
+                None => Step::Fault(Code::NoToken),
             }
         }
     }
@@ -60,7 +61,7 @@ fn taken(bytes: &[u8], index: usize, found: Found) -> Step
     };
     if found.sort == 3 {
         if !is_in_range(&bytes[index..index + found.len]) {
-            return Step::Fault(1003);
+            return Step::Fault(Code::IntTooLarge);
         }
     }
     Step::Taken(token)

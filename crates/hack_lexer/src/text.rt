@@ -1,5 +1,5 @@
 // Words, variables and strings at the front of bytes.
-ghost use Rattle.std.specs.Prelude.{◌≡◌, ◌<◌, ◌≤◌, ◌+◌, ◌&&◌, ◌||◌, ◌==◌, not, true, false, length, slice_index, IfSome};
+ghost use Rattle.std.specs.Prelude.{◌≡◌, ◌<◌, ◌≤◌, ◌+◌, ◌&&◌, ◌||◌, ◌==◌, not, false, length, IfSome};
 ghost use Rattle.hack_lexer.specs.Forms.{is_word, is_variable, is_string, through_quote};
 ghost use Rattle.hack_lexer.specs.Scan.{HasLongest};
 

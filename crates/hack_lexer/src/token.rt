@@ -31,12 +31,12 @@ impl Token {
 /// Why bytes have no tokens.
 #[derive(Clone, Copy, PartialEq, Eq)]
 pub enum LexStop {
-    /// The first fault of the bytes: 1001 where no token begins or a comment or a string isn't closed, 1003 for an int
-    /// above 2^63 - 1.
+    /// The first fault of the bytes.
     Fault {
         /// Where it stands.
         place: Place,
-        /// 1001 or 1003.
+        /// The number of `Code::NoToken` where no token begins or a comment or a string isn't closed, of
+        /// `Code::IntTooLarge` for an int above 2^63 - 1.
         code: u16,
     },
     /// Memory ran out.

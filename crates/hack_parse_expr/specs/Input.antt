@@ -1,5 +1,7 @@
 -- What a parser reads from.
 use Rattle.std.specs.Prelude.{◌-◌, ◌==◌, if◌then◌else◌, ℕ, List, [], ◌∷◌}
+use Rattle.hack_codes.specs.Numbers.{number}
+use Rattle.hack_codes.specs.declared.code.Code.TheVariants as code
 use Rattle.hack_types.specs.declared.place.Place.{Place}
 use Rattle.hack_parse_expr.specs.declared.lexeme.Lexeme.{Lexeme}
 use Rattle.hack_parse_expr.specs.declared.stop.ParseStop.{ParseStop}
@@ -30,15 +32,15 @@ shown i t = record t { at = relative i.start t.at }
 abbrev pub past : Input → Lexeme → List Lexeme → Input
 past i t left = record i { left = left; behind = t.behind }
 
--- this code at the next token, and 1005 at the end of the file
+-- this code at the next token, and that of the end at the end of the file
 abbrev pub fault_at : Place → ℕ → List Lexeme → ParseStop
-fault_at end code [] = Fault end 1005
-fault_at end code (t ∷ ts) = Fault t.at code
+fault_at end found [] = Fault end (number code.UnexpectedEnd)
+fault_at end found (t ∷ ts) = Fault t.at found
 
 -- no row reads the next token
 abbrev pub refusal : Input → ParseStop
-refusal i = fault_at i.end 1002 i.left
+refusal i = fault_at i.end (number code.UnexpectedToken) i.left
 
 -- the next token stands in more than 128 rows that count as nesting
 abbrev pub too_deep : Input → ParseStop
-too_deep i = fault_at i.end 1004 i.left
+too_deep i = fault_at i.end (number code.TooDeep) i.left

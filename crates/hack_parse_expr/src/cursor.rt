@@ -1,5 +1,6 @@
 // A cursor over the tokens of a file.
 ghost use Rattle.std.specs.Prelude.{◌≡◌, ◌<◌, ◌≤◌, length, IfSome, Some, None, [], ◌∷◌};
+ghost use Rattle.hack_codes.specs.Numbers.{number};
 ghost use Rattle.hack_parse_expr.specs.Input as input;
 ghost use Rattle.hack_parse_expr.specs.Kinds as kinds;
 ghost use Rattle.hack_parse_expr.specs.Parsers as spec;
@@ -8,6 +9,7 @@ ghost use Rattle.hack_parse_expr.specs.Rows.{sees};
 ghost use Rattle.hack_parse_expr.specs.Symbols.{Keyword_, Mark_, Name, Variable, Word, KeyText};
 
 use crate::{Lexeme, ParseStop};
+use hack_codes::Code;
 use hack_lexer::{Keyword, Mark, TokenKind};
 use hack_types::Place;
 use std::marker::Model;
@@ -135,27 +137,27 @@ impl<'t> Cursor<'t> {
     pub fn refuse(&self) -> ParseStop
         ensures { result ≡ input.refusal self.now }
     {
-        self.fault(1002)
+        self.fault(Code::UnexpectedToken)
     }
 
     /// The fault of a token that stands too deep, or of the end of the file.
     pub fn too_deep(&self) -> ParseStop
         ensures { result ≡ input.too_deep self.now }
     {
-        self.fault(1004)
+        self.fault(Code::TooDeep)
     }
 
-    fn fault(&self, code: u16) -> ParseStop
-        ensures { result ≡ input.fault_at self.now.end code self.now.left }
+    fn fault(&self, code: Code) -> ParseStop
+        ensures { result ≡ input.fault_at self.now.end (number code) self.now.left }
     {
         match self.left {
             [] => ParseStop::Fault {
                 place: self.end,
-                code: 1005,
+                code: Code::UnexpectedEnd.number(),
             },
             [token, ..] => ParseStop::Fault {
                 place: token.at,
-                code,
+                code: code.number(),
             },
         }
     }
