@@ -1,3 +1,4 @@
+pub mod Behind
 pub mod Cursor
 pub mod Decides
 pub mod Expressions

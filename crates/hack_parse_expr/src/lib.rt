@@ -1,6 +1,7 @@
 //! Reads types and expressions.
 #![tactic(auto)]
 
+mod behind;
 mod cursor;
 mod grammar;
 mod laws;
@@ -12,6 +13,7 @@ mod rows;
 mod stop;
 mod types;
 
+pub use behind::{beside, closed};
 pub use cursor::Cursor;
 pub use grammar::{
     arguments_if_any, expression, expression_if_any, expressions, expressions1, postfix,

@@ -6,8 +6,8 @@ ghost use Rattle.hack_parse_stmt.specs.Statements as spec;
 
 use hack_lexer::{Keyword, Mark};
 use hack_parse_expr::{
-    Cursor, ParseStop, StatementRow, class_type, expression, expression_if_any, expressions,
-    expressions1, postfix, statement_row,
+    Cursor, ParseStop, StatementRow, beside, class_type, closed, expression, expression_if_any,
+    expressions, expressions1, postfix, statement_row,
 };
 use hack_tree::{Case, Catch, ClassType, DeclaredName, Expr, Stmt};
 use sqlite_items::{Boxed, Items};
@@ -114,8 +114,7 @@ fn variables_closed(
     ensures { Reads (spec.variables_closed cursor.old) result cursor.new }
 {
     let found = variables(cursor)?;
-    cursor.expect(Mark::CloseParen)?;
-    Ok(found)
+    closed(cursor, Mark::CloseParen, found)
 }
 
 // An expression in brackets.
@@ -125,8 +124,7 @@ fn bracketed(alloc: Global, cursor: &mut Cursor<'_>, depth: usize) -> Result<Exp
 {
     cursor.expect(Mark::OpenParen)?;
     let inner = expression(alloc, cursor, depth)?;
-    cursor.expect(Mark::CloseParen)?;
-    Ok(inner)
+    closed(cursor, Mark::CloseParen, inner)
 }
 
 // An expression that may stand, and `;`.
@@ -139,8 +137,7 @@ fn value_if_any(
     ensures { Reads (spec.value_if_any depth cursor.old) result cursor.new }
 {
     let value = expression_if_any(alloc, cursor, depth)?;
-    cursor.expect(Mark::Semicolon)?;
-    Ok(value)
+    closed(cursor, Mark::Semicolon, value)
 }
 
 // Expressions, and this mark behind them.
@@ -154,8 +151,7 @@ fn expressions_to(
     ensures { Reads (spec.expressions_to depth mark cursor.old) result cursor.new }
 {
     let found = expressions(alloc, cursor, depth)?;
-    cursor.expect(mark)?;
-    Ok(found)
+    closed(cursor, mark, found)
 }
 
 // The brackets of a `for`.
@@ -165,8 +161,9 @@ fn for_head(alloc: Global, cursor: &mut Cursor<'_>, depth: usize) -> Result<ForH
 {
     cursor.expect(Mark::OpenParen)?;
     let start = expressions_to(alloc, cursor, depth, Mark::Semicolon)?;
-    let condition = value_if_any(alloc, cursor, depth)?;
-    let step = expressions_to(alloc, cursor, depth, Mark::CloseParen)?;
+    let (start, condition) = beside(start, value_if_any(alloc, cursor, depth))?;
+    let last = expressions_to(alloc, cursor, depth, Mark::CloseParen);
+    let ((start, condition), step) = beside((start, condition), last)?;
     Ok(ForHead {
         start,
         condition,
@@ -181,7 +178,7 @@ fn foreach_subject(alloc: Global, cursor: &mut Cursor<'_>, depth: usize) -> Resu
 {
     cursor.expect(Mark::OpenParen)?;
     let subject = postfix(alloc, cursor, depth)?;
-    cursor.expect_keyword(Keyword::As)?;
+    let (subject, _as) = beside(subject, cursor.expect_keyword(Keyword::As))?;
     Ok(subject)
 }
 
@@ -192,8 +189,7 @@ fn do_condition(alloc: Global, cursor: &mut Cursor<'_>, depth: usize) -> Result<
 {
     cursor.expect_keyword(Keyword::While)?;
     let condition = bracketed(alloc, cursor, depth)?;
-    cursor.expect(Mark::Semicolon)?;
-    Ok(condition)
+    closed(cursor, Mark::Semicolon, condition)
 }
 
 // The class and the variable of a catch, in brackets.
@@ -203,9 +199,8 @@ fn catch_head(alloc: Global, cursor: &mut Cursor<'_>, depth: usize) -> Result<Ca
 {
     cursor.expect(Mark::OpenParen)?;
     let class = class_type(alloc, cursor, depth)?;
-    let variable = variable(cursor)?;
-    cursor.expect(Mark::CloseParen)?;
-    Ok(CatchHead { class, variable })
+    let (class, variable) = beside(class, variable(cursor))?;
+    closed(cursor, Mark::CloseParen, CatchHead { class, variable })
 }
 
 #[tactic(auto, unfolding(crate::specs::Statements::empty_statement))]
@@ -231,8 +226,7 @@ fn throw_statement(alloc: Global, cursor: &mut Cursor<'_>, depth: usize) -> Resu
 {
     let at = cursor.token()?.at;
     let value = expression(alloc, cursor, depth)?;
-    cursor.expect(Mark::Semicolon)?;
-    Ok(Stmt::Throw { at, value })
+    closed(cursor, Mark::Semicolon, Stmt::Throw { at, value })
 }
 
 #[tactic(auto, unfolding(crate::specs::Statements::break_statement))]
@@ -240,8 +234,7 @@ fn break_statement(cursor: &mut Cursor<'_>) -> Result<Stmt, ParseStop>
     ensures { Reads (spec.break_statement cursor.old) result cursor.new }
 {
     let at = cursor.token()?.at;
-    cursor.expect(Mark::Semicolon)?;
-    Ok(Stmt::Break { at })
+    closed(cursor, Mark::Semicolon, Stmt::Break { at })
 }
 
 #[tactic(auto, unfolding(crate::specs::Statements::continue_statement))]
@@ -249,8 +242,7 @@ fn continue_statement(cursor: &mut Cursor<'_>) -> Result<Stmt, ParseStop>
     ensures { Reads (spec.continue_statement cursor.old) result cursor.new }
 {
     let at = cursor.token()?.at;
-    cursor.expect(Mark::Semicolon)?;
-    Ok(Stmt::Continue { at })
+    closed(cursor, Mark::Semicolon, Stmt::Continue { at })
 }
 
 #[tactic(auto, unfolding(crate::specs::Statements::echo_statement))]
@@ -259,8 +251,7 @@ fn echo_statement(alloc: Global, cursor: &mut Cursor<'_>, depth: usize) -> Resul
 {
     let at = cursor.token()?.at;
     let values = expressions1(alloc, cursor, depth)?;
-    cursor.expect(Mark::Semicolon)?;
-    Ok(Stmt::Echo { at, values })
+    closed(cursor, Mark::Semicolon, Stmt::Echo { at, values })
 }
 
 #[tactic(auto, unfolding(crate::specs::Statements::expression_statement))]
@@ -273,8 +264,7 @@ fn expression_statement(
 {
     let at = cursor.place()?;
     let expression = expression(alloc, cursor, depth)?;
-    cursor.expect(Mark::Semicolon)?;
-    Ok(Stmt::Expression { at, expression })
+    closed(cursor, Mark::Semicolon, Stmt::Expression { at, expression })
 }
 
 impl<F: Fn(Global, &mut Cursor<'_>, usize) -> Result<Stmt, ParseStop>> StatementGrammar<F> {
@@ -324,8 +314,7 @@ impl<F: Fn(Global, &mut Cursor<'_>, usize) -> Result<Stmt, ParseStop>> Statement
     {
         cursor.expect(Mark::OpenBrace)?;
         let body = self.statements(cursor)?;
-        cursor.expect(Mark::CloseBrace)?;
-        Ok(body)
+        closed(cursor, Mark::CloseBrace, body)
     }
 
     #[tactic(auto, unfolding(crate::specs::Statements::statements, hack_parse_expr::specs::Parsers::many_of, hack_parse_expr::specs::Parsers::many_from))]
@@ -360,8 +349,8 @@ impl<F: Fn(Global, &mut Cursor<'_>, usize) -> Result<Stmt, ParseStop>> Statement
     {
         let at = cursor.token()?.at;
         let condition = bracketed(self.alloc, cursor, self.depth)?;
-        let then = self.nested_boxed(cursor)?;
-        let otherwise = self.otherwise(cursor)?;
+        let (condition, then) = beside(condition, self.nested_boxed(cursor))?;
+        let ((condition, then), otherwise) = beside((condition, then), self.otherwise(cursor))?;
         Ok(Stmt::If {
             at,
             condition,
@@ -390,7 +379,7 @@ impl<F: Fn(Global, &mut Cursor<'_>, usize) -> Result<Stmt, ParseStop>> Statement
     {
         let at = cursor.token()?.at;
         let condition = bracketed(self.alloc, cursor, self.depth)?;
-        let body = self.nested_boxed(cursor)?;
+        let (condition, body) = beside(condition, self.nested_boxed(cursor))?;
         Ok(Stmt::While {
             at,
             condition,
@@ -405,7 +394,8 @@ impl<F: Fn(Global, &mut Cursor<'_>, usize) -> Result<Stmt, ParseStop>> Statement
     {
         let at = cursor.token()?.at;
         let body = self.nested_boxed(cursor)?;
-        let condition = do_condition(self.alloc, cursor, self.depth)?;
+        let last = do_condition(self.alloc, cursor, self.depth);
+        let (body, condition) = beside(body, last)?;
         Ok(Stmt::DoWhile {
             at,
             body,
@@ -420,7 +410,7 @@ impl<F: Fn(Global, &mut Cursor<'_>, usize) -> Result<Stmt, ParseStop>> Statement
     {
         let at = cursor.token()?.at;
         let head = for_head(self.alloc, cursor, self.depth)?;
-        let body = self.nested_boxed(cursor)?;
+        let (head, body) = beside(head, self.nested_boxed(cursor))?;
         Ok(Stmt::For {
             at,
             start: head.start,
@@ -437,8 +427,8 @@ impl<F: Fn(Global, &mut Cursor<'_>, usize) -> Result<Stmt, ParseStop>> Statement
     {
         let at = cursor.token()?.at;
         let subject = foreach_subject(self.alloc, cursor, self.depth)?;
-        let (key, value) = variables_closed(cursor)?;
-        let body = self.nested_boxed(cursor)?;
+        let (subject, (key, value)) = beside(subject, variables_closed(cursor))?;
+        let (subject, body) = beside(subject, self.nested_boxed(cursor))?;
         Ok(Stmt::Foreach {
             at,
             subject,
@@ -455,7 +445,7 @@ impl<F: Fn(Global, &mut Cursor<'_>, usize) -> Result<Stmt, ParseStop>> Statement
     {
         let at = cursor.token()?.at;
         let subject = bracketed(self.alloc, cursor, self.depth)?;
-        let cases = self.case_block(cursor)?;
+        let (subject, cases) = beside(subject, self.case_block(cursor))?;
         Ok(Stmt::Switch { at, subject, cases })
     }
 
@@ -466,8 +456,7 @@ impl<F: Fn(Global, &mut Cursor<'_>, usize) -> Result<Stmt, ParseStop>> Statement
     {
         cursor.expect(Mark::OpenBrace)?;
         let found = self.cases(cursor)?;
-        cursor.expect(Mark::CloseBrace)?;
-        Ok(found)
+        closed(cursor, Mark::CloseBrace, found)
     }
 
     #[tactic(auto, unfolding(crate::specs::Statements::cases, hack_parse_expr::specs::Parsers::many_of, hack_parse_expr::specs::Parsers::many_from))]
@@ -506,8 +495,8 @@ impl<F: Fn(Global, &mut Cursor<'_>, usize) -> Result<Stmt, ParseStop>> Statement
     {
         let at = cursor.token()?.at;
         let value = expression(self.alloc, cursor, self.depth)?;
-        cursor.expect(Mark::Colon)?;
-        let body = self.statements(cursor)?;
+        let value = closed(cursor, Mark::Colon, value)?;
+        let (value, body) = beside(value, self.statements(cursor))?;
         Ok(Case {
             at,
             value: Some(value),
@@ -537,8 +526,8 @@ impl<F: Fn(Global, &mut Cursor<'_>, usize) -> Result<Stmt, ParseStop>> Statement
     {
         let at = cursor.token()?.at;
         let body = self.block(cursor)?;
-        let catches = self.catches(cursor)?;
-        let last = self.finally(cursor)?;
+        let (body, catches) = beside(body, self.catches(cursor))?;
+        let ((body, catches), last) = beside((body, catches), self.finally(cursor))?;
         Ok(Stmt::Try {
             at,
             body,
@@ -569,7 +558,7 @@ impl<F: Fn(Global, &mut Cursor<'_>, usize) -> Result<Stmt, ParseStop>> Statement
     {
         cursor.token()?;
         let head = catch_head(self.alloc, cursor, self.depth)?;
-        let body = self.block(cursor)?;
+        let (head, body) = beside(head, self.block(cursor))?;
         Ok(Catch {
             class: head.class,
             variable: head.variable,
