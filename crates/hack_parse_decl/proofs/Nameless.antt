@@ -1,5 +1,7 @@
 -- How a run ends doesn't depend on the names that its tokens spell.
-use Rattle.std.proofs.Common.{◌≡◌, ℕ, zero, suc, Bool, true, false, List, [], ◌∷◌, map, Option, None, Some, refl, sym, ap, ◌∙◌, subst, ◌&&◌, nat_le, if◌then◌else◌}
+use Rattle.std.proofs.Common.{◌≡◌, ℕ, zero, suc, Bool, true, false, List, [], ◌∷◌, map, Option, None, Some, refl, sym, ap, subst, ◌&&◌, nat_le, if◌then◌else◌}
+use Rattle.hack_codes.specs.Numbers.{number}
+use Rattle.hack_codes.specs.declared.code.Code.TheVariants as code
 use Rattle.hack_types.specs.declared.place.Place.{Place}
 use Rattle.hack_lexer.specs.declared.kind.Mark.TheVariants as mark
 use Rattle.hack_parse_expr.specs.declared.lexeme.Lexeme.{Lexeme}
@@ -70,15 +72,15 @@ Alike (Ends v i) (Ends w j) = nameless_input i ≡ j
 Alike (Stops stop) (Stops other) = stop ≡ other
 Alike _ _ = ⊥
 
-fault_same : (end : Place) (code : ℕ) (ts : List Lexeme) → fault_at end code ts ≡ fault_at end code (map nameless ts)
-fault_same end code [] = refl
-fault_same end code (t ∷ ts) = refl
+fault_same : (end : Place) (found : ℕ) (ts : List Lexeme) → fault_at end found ts ≡ fault_at end found (map nameless ts)
+fault_same end found [] = refl
+fault_same end found (t ∷ ts) = refl
 
 pub refusal_same : (i : Input) → refusal i ≡ refusal (nameless_input i)
-refusal_same i = fault_same i.end 1002 i.left
+refusal_same i = fault_same i.end (number code.UnexpectedToken) i.left
 
 too_deep_same : (i : Input) → too_deep i ≡ too_deep (nameless_input i)
-too_deep_same i = fault_same i.end 1004 i.left
+too_deep_same i = fault_same i.end (number code.TooDeep) i.left
 
 -- either side of a test
 alike_test : {R : Type 0} (b : Bool) (x y z w : Next R) → Alike x z → Alike y w → Alike (if b then x else y) (if b then z else w)

@@ -37,7 +37,7 @@ use Rattle.hack_parse_expr.specs.declared.rows.MemberRow.{MemberRow}
 use Rattle.hack_parse_expr.specs.declared.rows.MemberRow.TheVariants as member_kind
 use Rattle.hack_parse_expr.specs.Decides.{is_there, declaration_row, member_row, visibility, modifier, class_modifier, variance, bound_kind}
 use Rattle.hack_parse_expr.specs.Kinds.{next_kind}
-use Rattle.hack_parse_expr.specs.Symbols.{Terminal, Mark_, Keyword_, Name, Variable, Word, Declared}
+use Rattle.hack_parse_expr.specs.Symbols.{Mark_, Keyword_, Name, Variable, Word, Declared}
 use Rattle.hack_parse_expr.specs.Rows.{sees, declared_name, or_empty, begins_attributes, begins_declaration, begins_type_parameter, begins_parameter, begins_member, begins_interface_member}
 use Rattle.hack_parse_expr.specs.Run.{deepest}
 use Rattle.hack_parse_expr.specs.Parsers.{Parser, ◌>>=◌, ◌>>◌, ◌<$>◌, pure, refuse, token, expect, eat, place, starting, finishing, optionally, many_of, list_of, list_from}
@@ -65,12 +65,6 @@ word_read = declared_name <$> expect Word
 
 abbrev pub variable_read : Parser DeclaredName
 variable_read = declared_name <$> expect Variable
-
--- this, with a token behind it
-abbrev pub closed : {A : Type 0} → Terminal → A → Parser A
-closed terminal read = do
-  expect terminal
-  pure read
 
 -- ---- attributes
 

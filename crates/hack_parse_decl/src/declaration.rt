@@ -5,10 +5,10 @@ ghost use Rattle.hack_parse_expr.specs.Parsers.{Reads};
 
 use crate::member::{body_read, interface_members, members, types_behind};
 use crate::signature::{
-    class_read, closed, name_read, signature, type_parameters_if_any, type_read, value_closed,
+    class_read, name_read, signature, type_parameters_if_any, type_read, value_closed,
 };
 use hack_lexer::{Keyword, Mark};
-use hack_parse_expr::{Cursor, DeclarationRow, ParseStop, class_modifier, declaration_row};
+use hack_parse_expr::{Cursor, DeclarationRow, ParseStop, class_modifier, closed, declaration_row};
 use hack_tree::{
     Attribute, ClassModifier, ClassType, DeclaredName, EnumCase, Expr, TypeParameter, UnitTree,
     WrittenType,

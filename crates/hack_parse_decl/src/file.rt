@@ -1,5 +1,5 @@
 // Files (docs/language.md, Declarations).
-ghost use Rattle.std.specs.Prelude.{◌≡◌, ◌≤◌, ◌<◌, ◌+◌, ◌-◌, ◌*◌, ◌^◌, ℕ, List, length, IfOk, IfErr};
+ghost use Rattle.std.specs.Prelude.{◌≡◌, ◌≤◌, ◌<◌, ◌+◌, ◌-◌, ◌*◌, ℕ, List, length, IfOk, IfErr};
 ghost use Rattle.hack_types.specs.declared.place.Place.{Place};
 ghost use Rattle.hack_tree.specs.declared.declaration.FileTree.{FileTree};
 ghost use Rattle.hack_parse_decl.specs.Files as files;

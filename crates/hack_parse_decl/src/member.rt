@@ -5,11 +5,11 @@ ghost use Rattle.hack_parse_expr.specs.Parsers.{Reads};
 ghost use Rattle.hack_parse_expr.specs.Rows.{begins_interface_member, begins_member};
 
 use crate::signature::{
-    DEEPEST, attributes_if_any, begins_attributes, class_read, closed, name_read, signature,
-    type_read, value_closed_if_any, variable_read, word_read,
+    DEEPEST, attributes_if_any, begins_attributes, class_read, name_read, signature, type_read,
+    value_closed_if_any, variable_read, word_read,
 };
 use hack_lexer::{Keyword, Mark};
-use hack_parse_expr::{Cursor, MemberRow, ParseStop, member_row, modifier};
+use hack_parse_expr::{Cursor, MemberRow, ParseStop, closed, member_row, modifier};
 use hack_parse_stmt::block;
 use hack_tree::{Attribute, ClassType, DeclaredName, Expr, Member, Modifier, Stmt, WrittenType};
 use hack_types::Place;

@@ -2,13 +2,12 @@
 ghost use Rattle.std.specs.Prelude.{◌≡◌};
 ghost use Rattle.hack_parse_decl.specs.Declarations as spec;
 ghost use Rattle.hack_parse_expr.specs.Parsers.{Reads};
-ghost use Rattle.hack_parse_expr.specs.Symbols.{Mark_};
 ghost use Rattle.hack_parse_expr.specs.Rows.{begins_attributes, begins_parameter, begins_type_parameter, or_empty};
 
 use hack_lexer::Mark;
 use hack_parse_expr::{
-    Cursor, ParseStop, arguments_if_any, begins_type, bound_kind, class_type, expression, variance,
-    visibility, written_type,
+    Cursor, ParseStop, arguments_if_any, begins_type, bound_kind, class_type, closed, expression,
+    variance, visibility, written_type,
 };
 use hack_tree::{
     Attribute, Bound, Callable, ClassType, DeclaredName, Expr, Parameter, TypeParameter, Variance,
@@ -80,14 +79,6 @@ fn or_empty<T: Drop>(alloc: Global, items: Option<Items<T>>) -> Items<T>
         None => Items::new(alloc),
         Some(items) => items,
     }
-}
-
-/// What was read, with this mark behind it.
-pub(crate) fn closed<T: Drop>(cursor: &mut Cursor<'_>, mark: Mark, read: T) -> Result<T, ParseStop>
-    ensures { Reads (spec.closed (Mark_ mark) read cursor.old) result cursor.new }
-{
-    cursor.expect(mark)?;
-    Ok(read)
 }
 
 /// Whether attributes come next.
