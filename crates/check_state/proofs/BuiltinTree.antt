@@ -1,19 +1,14 @@
 -- The builtin text has a tree, of six classes, and no fault.
-use Rattle.std.proofs.Common.{◌≡◌, ◌<◌, ◌+◌, ◌||◌, ℕ, zero, suc, List, [], ◌∷◌, ◌++◌, length, map, take, get_or, refl, sym, ap, subst, ◌∙◌, arith, Bool, true, false, true≢false, Option, None, Some, if◌then◌else◌}
-use Rattle.std.specs.Prelude.{slice_get}
-use Rattle.std.specs.List.{list_any, AllByRecursion}
-use Rattle.std.specs.Str.{bytes_eq}
-use Rattle.std.proofs.lemmas.List.{take_all, length-map}
-use Rattle.std.proofs.lemmas.Slice.Eq.{bytes_eq-Decides}
+use Rattle.std.proofs.Common.{◌≡◌, ◌<◌, ℕ, zero, suc, List, [], ◌∷◌, length, map, get_or, refl, sym, ap, subst, ◌∙◌, arith}
+use Rattle.std.specs.List.{AllByRecursion}
+use Rattle.std.proofs.lemmas.List.{length-map}
 use Rattle.hack_types.specs.declared.place.Place.{Place}
 use Rattle.hack_types.specs.declared.ids.Kind.TheVariants as symbol
-use Rattle.hack_types.specs.Places.{place_of}
 use Rattle.hack_builtin.specs.Builtin.{builtin_text}
 use Rattle.hack_lexer.specs.declared.kind.TokenKind.{TokenKind}
 use Rattle.hack_lexer.specs.declared.kind.TokenKind.TheVariants.{Name}
 use Rattle.hack_lexer.specs.declared.token.Token.{Token}
 use Rattle.hack_lexer.specs.Kinds.{sort_of_kind}
-use Rattle.hack_lexer.specs.Tokens.{AreTokens}
 use Rattle.hack_lexer.proofs.Cuts.{one_list}
 use Rattle.hack_lexer.proofs.SameKind.{one_kind}
 use Rattle.hack_tree.specs.declared.declaration.Unit.{Unit as UnitOf}
@@ -22,11 +17,11 @@ use Rattle.hack_parse_expr.specs.declared.lexeme.Lexeme.{Lexeme}
 use Rattle.hack_parse_expr.specs.Symbols.{File, Declared, rule}
 use Rattle.hack_parse_expr.specs.Parsers.{at_front}
 use Rattle.hack_parse_expr.proofs.Runs.{stands_once}
-use Rattle.hack_parse_decl.specs.Lexemes.{AreLexemes}
-use Rattle.hack_parse_decl.specs.Files.{kind_of, unit_of, end_of, IsInput, IsTree, IsFileTree, IsFileFault}
-use Rattle.hack_parse_decl.proofs.Lexed.{none_yet}
-use Rattle.hack_parse_decl.proofs.Named.{no_token, AreNamed, more_named}
-use Rattle.hack_parse_decl.proofs.OneTree.{tree_or_fault}
+use Rattle.hack_parse_file.specs.Lexemes.{AreLexemes}
+use Rattle.hack_parse_file.specs.Files.{kind_of, unit_of, end_of, IsInput, IsTree, IsFileTree, IsFileFault}
+use Rattle.hack_parse_file.proofs.Lexed.{none_yet}
+use Rattle.hack_parse_file.proofs.Named.{no_token, AreNamed, more_named}
+use Rattle.hack_parse_file.proofs.OneTree.{tree_or_fault}
 use Rattle.check_state.proofs.BuiltinTreeKinds.{builtin_kinds, of_kinds}
 use Rattle.check_state.proofs.BuiltinTreeTokens.{builtin_cut}
 use Rattle.check_state.proofs.BuiltinTreeParse.{AreSixClasses, builtin_stands}

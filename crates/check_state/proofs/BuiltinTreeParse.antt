@@ -10,7 +10,7 @@ use Rattle.hack_parse_expr.specs.Input.{Input}
 use Rattle.hack_parse_expr.specs.Symbols.{File, Declared, rule}
 use Rattle.hack_parse_expr.specs.Parsers.{at_front}
 use Rattle.hack_parse_expr.specs.Run.{Next, Goes, Ends, Stops, run, only, Stands}
-use Rattle.hack_parse_decl.specs.Files.{kind_of}
+use Rattle.hack_parse_file.specs.Files.{kind_of}
 use Rattle.check_state.proofs.BuiltinTreeKinds.{builtin_kinds, of_kinds}
 
 -- ---- what they stand for

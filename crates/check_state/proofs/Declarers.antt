@@ -24,8 +24,8 @@ use Rattle.hack_tree.specs.declared.declaration.Unit.{Unit as UnitOf}
 use Rattle.hack_names.specs.declared.unit.UnitHead.{UnitHead}
 use Rattle.hack_names.specs.Declarations.{Declaration, declarations, winner}
 use Rattle.hack_names.proofs.Rising.{In}
-use Rattle.hack_parse_decl.specs.Files.{IsTree}
-use Rattle.hack_parse_decl.specs.Lexemes.{IsIdOf}
+use Rattle.hack_parse_file.specs.Files.{IsTree}
+use Rattle.hack_parse_file.specs.Lexemes.{IsIdOf}
 use Rattle.hack_first.specs.declared.unit.FirstUnit.{FirstUnit}
 use Rattle.hack_first.specs.declared.unit.Primitive.{Primitive}
 use Rattle.hack_first.specs.declared.unit.Returned.TheVariants.{Call}
@@ -38,7 +38,7 @@ use Rattle.check_state.specs.declared.state.State.{State}
 use Rattle.check_state.specs.Findings.{Declares, IsBefore, IsTaken, HasResult, AreFirst, IsFirst}
 use Rattle.check_state.specs.Inside.{function_symbol, first_in_units, first_in_parsed, first_kept, result_in, declared_result, result_at, is_there}
 use Rattle.check_state.specs.Stands.{Stands, IsKept, IsRead, IsParsed, head_of, heads_from, heads_in, heads_kept}
-use Rattle.hack_parse_decl.proofs.OneTree.{no_fault_of_tree}
+use Rattle.hack_parse_file.proofs.OneTree.{no_fault_of_tree}
 use Rattle.hack_first.proofs.UnitLaws.{body_is_tree, fault_is_no_body, unit_is_function, name_id, call_id, units_in_order}
 use Rattle.check_state.proofs.BuiltinTree.{builtin_units}
 use Rattle.check_state.proofs.Declared.{Ascends, Counts, found_counts, counts_found}

@@ -15,7 +15,7 @@ use Rattle.check_state.specs.declared.file.Parsed.TheVariants.{Tree, Fault}
 use Rattle.check_state.specs.declared.state.State.{State}
 use Rattle.check_state.specs.Findings.{AreFirst, IsFirst}
 use Rattle.check_state.specs.Stands.{Stands, IsRead, IsParsed, named_sum, others_in}
-use Rattle.hack_parse_decl.proofs.OneTree.{no_fault_of_tree}
+use Rattle.hack_parse_file.proofs.OneTree.{no_fault_of_tree}
 use Rattle.hack_first.proofs.UnitLaws.{body_is_tree}
 use Rattle.check_state.proofs.Standing.{others_of, some_kept, kept_some, one_unless}
 use Rattle.check_state.proofs.Sums.{names_same, own, sum-cons, own-named}

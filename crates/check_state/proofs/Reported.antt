@@ -13,7 +13,7 @@ use Rattle.hack_tree.specs.declared.declaration.Unit.{Unit as UnitOf}
 use Rattle.hack_names.specs.declared.unit.UnitHead.{UnitHead}
 use Rattle.hack_names.specs.Declarations.{Declaration, declarations, losers, winner}
 use Rattle.hack_names.proofs.Rising.{In, in_from_lookup, lookup_from_in, rises_from_sorted}
-use Rattle.hack_parse_decl.specs.Files.{IsFileFault}
+use Rattle.hack_parse_file.specs.Files.{IsFileFault}
 use Rattle.hack_first.specs.declared.unit.FirstUnit.{FirstUnit}
 use Rattle.hack_first.specs.declared.unit.Primitive.{Primitive}
 use Rattle.hack_first.specs.declared.unit.Primitive.TheVariants.{Int, Str}
@@ -29,7 +29,7 @@ use Rattle.check_state.specs.Faults.{fault_diag}
 use Rattle.check_state.specs.Findings.{Declares, IsTaken, HasResult, HasType, IsUnbound, IsUnitFinding, IsFaultFinding, IsTakenFinding, IsCountedFinding, IsFinding, IsFirstReport, AreFirst, unbound, taken}
 use Rattle.check_state.specs.Inside.{function_symbol, type_found, called, same_type, mismatch_diag, finding_for, is_there, first_finding, with_file, unit_findings, parsed_findings, taken_diag, taken_finding, taken_findings, kept_findings, all_findings}
 use Rattle.check_state.specs.Stands.{Stands, IsParsed, head_of}
-use Rattle.hack_parse_decl.proofs.OneTree.{no_fault_of_tree, one_file_fault}
+use Rattle.hack_parse_file.proofs.OneTree.{no_fault_of_tree, one_file_fault}
 use Rattle.check_state.proofs.Declared.{Loses, behind_loses, loses_behind}
 use Rattle.check_state.proofs.Declarers.{IsUnitAt, IsFirstAt, in_table, declared_unit, unit_declared, in_a_file, symbol_of, name_place, id_of, call_id_of, all_first, first_declares, declares_first, taken_earlier, earlier_taken, there_free, free_there, result_has, has_result, units_kept, units_in}
 use Rattle.check_state.proofs.Listed.{in_file, in_append, append_left, append_right}

@@ -19,7 +19,7 @@ use Rattle.hack_builtin.specs.Builtin.{builtin_text}
 use Rattle.hack_types.specs.Names.{fixed_names}
 use Rattle.hack_names.specs.Declarations.{Table}
 use Rattle.hack_names.specs.declared.unit.UnitHead.{UnitHead}
-use Rattle.hack_parse_decl.specs.Lexemes.{Extends}
+use Rattle.hack_parse_file.specs.Lexemes.{Extends}
 use Rattle.hack_first.specs.FirstTrees.{first_units}
 use Rattle.check_state.specs.declared.file.File.{File}
 use Rattle.check_state.specs.declared.file.Parsed.{Parsed}
@@ -27,7 +27,7 @@ use Rattle.check_state.specs.declared.file.Parsed.TheVariants.{Tree, Fault}
 use Rattle.check_state.specs.declared.state.State.{State}
 use Rattle.check_state.specs.Edits.{first_files}
 use Rattle.check_state.specs.Stands.{Stands, IsRead, IsKept, IsParsed, heads_from, heads_in, heads_kept, with_file, named_sum, others_in}
-use Rattle.hack_parse_decl.proofs.OneTree.{tree_stays}
+use Rattle.hack_parse_file.proofs.OneTree.{tree_stays}
 use Rattle.check_state.proofs.Sums.{of_found, sum-insert, sum-remove, sum-small, names_same, text-insert, count-insert, text-remove, count-remove, remove-nothing}
 
 abbrev pub Kept : Type 0

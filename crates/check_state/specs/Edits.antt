@@ -5,7 +5,7 @@ use Rattle.hack_base.specs.Files as model
 use Rattle.hack_base.specs.Files.{Files, Put, Remove, after, count, text}
 use Rattle.hack_base.specs.Script.{IsFileName}
 use Rattle.hack_builtin.specs.Builtin.{builtin_text}
-use Rattle.hack_parse_decl.specs.Room.{most_bytes}
+use Rattle.hack_parse_file.specs.Room.{most_bytes}
 use Rattle.check_state.specs.declared.edit.Edit.{Edit}
 use Rattle.check_state.specs.declared.edit.Edit.TheVariants as edits
 use Rattle.check_state.specs.declared.edit.EditStop.{EditStop}

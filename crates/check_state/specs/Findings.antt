@@ -11,7 +11,7 @@ use Rattle.hack_types.specs.declared.diag.Diag.{Diag}
 use Rattle.hack_types.specs.declared.diag.FileDiag.{FileDiag}
 use Rattle.hack_types.specs.declared.place.Place.{Place}
 use Rattle.hack_types.specs.Report.{IsReport}
-use Rattle.hack_parse_decl.specs.Files.{IsFileFault}
+use Rattle.hack_parse_file.specs.Files.{IsFileFault}
 use Rattle.hack_first.specs.declared.unit.Primitive.{Primitive}
 use Rattle.hack_first.specs.Functions.{Function, Value, OfType, OfCall, type_text}
 use Rattle.hack_first.specs.FirstUnits.{IsFirstBody}

@@ -1,5 +1,5 @@
 -- What a state stands for.
-use Rattle.std.specs.Prelude.{◌≡◌, ◌≤◌, ◌+◌, ◌^◌, ℕ, List, [], ◌∷◌, Option, None, Some, length, is_some, if◌then◌else◌}
+use Rattle.std.specs.Prelude.{◌≡◌, ◌≤◌, ◌+◌, ℕ, List, [], ◌∷◌, Option, None, Some, length, is_some, if◌then◌else◌}
 use Rattle.std.specs.BTreeMap as tree
 use Rattle.std.specs.FinMap.{get, insert}
 use Rattle.hack_base.specs.Files as model
@@ -8,8 +8,8 @@ use Rattle.hack_builtin.specs.Builtin.{builtin_text}
 use Rattle.hack_tree.specs.declared.declaration.Unit.{Unit as UnitOf}
 use Rattle.hack_names.specs.Declarations.{Table}
 use Rattle.hack_names.specs.declared.unit.UnitHead.{UnitHead}
-use Rattle.hack_parse_decl.specs.Files.{IsTree, IsFileFault}
-use Rattle.hack_parse_decl.specs.Room.{most_bytes, HasRoom}
+use Rattle.hack_parse_file.specs.Files.{IsTree, IsFileFault}
+use Rattle.hack_parse_file.specs.Room.{most_bytes, HasRoom}
 use Rattle.hack_first.specs.FirstTrees.{first_units}
 use Rattle.check_state.specs.declared.file.File.{File}
 use Rattle.check_state.specs.declared.file.Parsed.{Parsed}

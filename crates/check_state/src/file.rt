@@ -1,13 +1,13 @@
 // One file as it is kept: its tree or its fault, and the heads of its declarations.
 ghost use Rattle.std.specs.Prelude.{◌≡◌, ◌≤◌, ◌+◌, ◌*◌, None, IfOk, OnOk, length};
 ghost use Rattle.std.specs.FinMap.{get};
-ghost use Rattle.hack_parse_decl.specs.Lexemes.{Extends};
-ghost use Rattle.hack_parse_decl.specs.Room.{most_bytes, HasRoom};
+ghost use Rattle.hack_parse_file.specs.Lexemes.{Extends};
+ghost use Rattle.hack_parse_file.specs.Room.{most_bytes, HasRoom};
 ghost use Rattle.check_state.specs.Stands.{IsRead, heads_from, others_in, with_file};
 
 use hack_first::are_first;
 use hack_names::{NamingTable, UnitHead};
-use hack_parse_decl::{ParseStop, parse_file};
+use hack_parse_file::{ParseStop, parse_file};
 use hack_tree::{FileTree, Unit};
 use hack_types::{Names, NoMemory, Place};
 use std::alloc::Global;

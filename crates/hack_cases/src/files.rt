@@ -4,7 +4,7 @@ use crate::plain::{note, push_fault, push_made};
 use crate::run::Table;
 use crate::{below, folding, inferring, types};
 use hack_first::{FirstUnit, Primitive, Returned, are_first, first_unit};
-use hack_parse_decl::{ParseStop, parse_file, room_by_length};
+use hack_parse_file::{ParseStop, parse_file, room_by_length};
 use hack_shallow::shallow_of;
 use hack_show::{Out, show_shallow, show_tree};
 use hack_tree::{FileTree, Unit};

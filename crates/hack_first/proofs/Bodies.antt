@@ -12,9 +12,9 @@ use Rattle.hack_parse_expr.specs.Input.{Input}
 use Rattle.hack_parse_expr.specs.Run.{Fails}
 use Rattle.hack_parse_expr.specs.Parsers.{at_front}
 use Rattle.hack_parse_expr.specs.Symbols.{Declared, File, rule}
-use Rattle.hack_parse_decl.specs.Lexemes.{AreLexemes}
+use Rattle.hack_parse_file.specs.Lexemes.{AreLexemes}
 use Rattle.hack_parse_decl.specs.Declarations.{declarations}
-use Rattle.hack_parse_decl.specs.Files.{IsTree, IsFileFault, IsLeftOver, end_of}
+use Rattle.hack_parse_file.specs.Files.{IsTree, IsFileFault, IsLeftOver, end_of}
 use Rattle.hack_parse_decl.proofs.DeclarationsFollow.{files_stand, files_fail}
 use Rattle.hack_first.specs.Functions.{Function}
 use Rattle.hack_first.specs.FirstUnits.{AreUnits, IsFirstBody}

@@ -22,7 +22,7 @@ use Rattle.hack_parse_expr.specs.Rows.{declared_name}
 use Rattle.hack_parse_expr.specs.Run.{deepest}
 use Rattle.hack_parse_expr.specs.Parsers.{Outcome, token, expect, starting, starting_at}
 use Rattle.hack_parse_stmt.specs.Statements.{begins_statement, statements, block, statement}
-use Rattle.hack_parse_decl.specs.Files.{absolute}
+use Rattle.hack_parse_file.specs.Files.{absolute}
 use Rattle.hack_parse_decl.specs.Declarations.{name_read, attributes_if_any, signature, members, interface_members, class_words, class_head, head, enum_head, enum_block, alias_parts, constant_parts, function, class, interface, trait_unit, enum_unit, alias, constant, declaration_by, declared, declaration}
 use Rattle.hack_first.specs.declared.unit.Primitive.{Primitive}
 use Rattle.hack_first.specs.declared.unit.Returned.{Returned}

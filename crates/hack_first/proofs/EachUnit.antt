@@ -18,7 +18,7 @@ use Rattle.hack_lexer.proofs.SameKind.{one_kind}
 use Rattle.hack_parse_expr.specs.declared.lexeme.Lexeme.{Lexeme}
 use Rattle.hack_parse_expr.specs.Input.{Input}
 use Rattle.hack_parse_expr.specs.Symbols.{Declared}
-use Rattle.hack_parse_decl.specs.Lexemes.{spelled, IsIdOf, IsNamed, IsLexeme, AreLexemes}
+use Rattle.hack_parse_file.specs.Lexemes.{spelled, IsIdOf, IsNamed, IsLexeme, AreLexemes}
 use Rattle.hack_parse_decl.specs.Declarations.{declaration}
 use Rattle.hack_first.specs.declared.unit.Returned.TheVariants.{Call}
 use Rattle.hack_first.specs.declared.unit.FirstUnit.{FirstUnit}

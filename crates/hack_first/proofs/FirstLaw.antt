@@ -12,8 +12,8 @@ use Rattle.hack_parse_expr.specs.Input.{Input, relative}
 use Rattle.hack_parse_expr.specs.Symbols.{Declared}
 use Rattle.hack_parse_expr.specs.Rows.{begins_declaration}
 use Rattle.hack_parse_expr.specs.Parsers.{at_front}
-use Rattle.hack_parse_decl.specs.Lexemes.{spelled, IsIdOf, IsNamed, IsLexeme, AreLexemes}
-use Rattle.hack_parse_decl.specs.Files.{absolute, unit_of}
+use Rattle.hack_parse_file.specs.Lexemes.{spelled, IsIdOf, IsNamed, IsLexeme, AreLexemes}
+use Rattle.hack_parse_file.specs.Files.{absolute, unit_of}
 use Rattle.hack_parse_decl.specs.Declarations.{declaration, declarations}
 use Rattle.hack_first.specs.Functions.{Function, named}
 use Rattle.hack_first.specs.FirstUnits.{Lexeme as Form, counted_text, lexeme, IsSpelled, BeginsAt, SecondAt, IsUnit, AreUnits}

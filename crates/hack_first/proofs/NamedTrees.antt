@@ -7,7 +7,7 @@ use Rattle.hack_tree.specs.declared.declaration.DeclaredName.{DeclaredName}
 use Rattle.hack_tree.specs.declared.declaration.Unit.{Unit as UnitOf}
 use Rattle.hack_tree.specs.declared.declaration.UnitTree.{UnitTree}
 use Rattle.hack_parse_expr.specs.Symbols.{Declared}
-use Rattle.hack_parse_decl.specs.Files.{absolute}
+use Rattle.hack_parse_file.specs.Files.{absolute}
 use Rattle.hack_first.specs.declared.unit.Primitive.{Primitive}
 use Rattle.hack_first.specs.declared.unit.Returned.{Returned}
 use Rattle.hack_first.specs.declared.unit.FirstUnit.{FirstUnit}

@@ -6,7 +6,7 @@ use Rattle.std.proofs.lemmas.List.{length-take}
 use Rattle.hack_types.specs.declared.place.Place.{Place}
 use Rattle.hack_types.specs.Places.{behind, behind_all, place_of}
 use Rattle.hack_parse_expr.specs.Input.{relative}
-use Rattle.hack_parse_decl.specs.Files.{counted, absolute}
+use Rattle.hack_parse_file.specs.Files.{counted, absolute}
 use Rattle.hack_lexer.proofs.InOrder.{place_next}
 
 -- the second place is not before the first

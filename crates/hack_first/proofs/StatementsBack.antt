@@ -20,7 +20,7 @@ use Rattle.hack_parse_expr.specs.declared.rows.Nested.TheVariants as nested_kind
 use Rattle.hack_parse_expr.specs.Input.{Input, relative}
 use Rattle.hack_parse_expr.specs.Kinds.{next_kind, second_kind}
 use Rattle.hack_parse_expr.specs.Decides.{type_row, statement_row}
-use Rattle.hack_parse_expr.specs.Symbols.{Mark_, Keyword_}
+use Rattle.hack_parse_expr.specs.Symbols.{Mark_}
 use Rattle.hack_parse_expr.specs.Rows.{begins_expression}
 use Rattle.hack_parse_expr.specs.Parsers.{Outcome, Parser, and_then, token, expect, place}
 use Rattle.hack_parse_expr.specs.Types.{named as class_named, optional, container, dict, fields, shape, type_by, type_row_read, written_type}

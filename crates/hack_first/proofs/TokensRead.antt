@@ -15,8 +15,8 @@ use Rattle.hack_parse_expr.specs.Input.{Input, relative}
 use Rattle.hack_parse_expr.specs.Symbols.{Declared}
 use Rattle.hack_parse_expr.specs.Rows.{begins_declaration}
 use Rattle.hack_parse_expr.specs.Parsers.{Parser, many_from, many_of, at_front}
-use Rattle.hack_parse_decl.specs.Lexemes.{AreLexemes}
-use Rattle.hack_parse_decl.specs.Files.{absolute}
+use Rattle.hack_parse_file.specs.Lexemes.{AreLexemes}
+use Rattle.hack_parse_file.specs.Files.{absolute}
 use Rattle.hack_parse_decl.specs.Declarations.{declaration, declarations}
 use Rattle.hack_first.specs.Functions.{Function}
 use Rattle.hack_first.specs.FirstUnits.{type_keyword, SecondAt, IsUnit, AreUnits}

@@ -14,9 +14,9 @@ use Rattle.hack_parse_expr.specs.Input.{Input}
 use Rattle.hack_parse_expr.specs.Symbols.{Declared}
 use Rattle.hack_parse_expr.specs.Rows.{begins_declaration}
 use Rattle.hack_parse_expr.specs.Parsers.{at_front}
-use Rattle.hack_parse_decl.specs.Lexemes.{IsIdOf}
+use Rattle.hack_parse_file.specs.Lexemes.{IsIdOf}
 use Rattle.hack_parse_decl.specs.Declarations.{declaration, declarations}
-use Rattle.hack_parse_decl.specs.Files.{absolute, name_of, symbol_of, unit_of, end_of, IsTree, IsFileFault}
+use Rattle.hack_parse_file.specs.Files.{absolute, name_of, symbol_of, unit_of, end_of, IsTree, IsFileFault}
 use Rattle.hack_parse_decl.proofs.DeclarationsFollow.{files_stand}
 use Rattle.hack_first.specs.declared.unit.Primitive.{Primitive}
 use Rattle.hack_first.specs.declared.unit.Returned.{Returned}

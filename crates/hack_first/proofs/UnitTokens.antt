@@ -12,7 +12,7 @@ use Rattle.hack_lexer.specs.declared.token.Token.{Token}
 use Rattle.hack_lexer.specs.Kinds.{sort_of_kind}
 use Rattle.hack_lexer.specs.Tokens.{text_of}
 use Rattle.hack_parse_expr.specs.declared.lexeme.Lexeme.{Lexeme}
-use Rattle.hack_parse_decl.specs.Lexemes.{spelled, IsIdOf, IsNamed, IsLexeme, AreLexemes}
+use Rattle.hack_parse_file.specs.Lexemes.{spelled, IsIdOf, IsNamed, IsLexeme, AreLexemes}
 use Rattle.hack_first.specs.declared.unit.Primitive.TheVariants.{Int, Str}
 use Rattle.hack_first.specs.Functions.{Function, Value, OfType, OfCall, named}
 use Rattle.hack_first.specs.FirstUnits.{Lexeme as Form, counted_text, lexeme, name, mark, keyword, type_keyword, opening, closing, IsSpelled, BeginsAt}

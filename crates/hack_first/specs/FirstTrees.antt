@@ -26,7 +26,7 @@ use Rattle.hack_tree.specs.declared.declaration.Parameter.{Parameter}
 use Rattle.hack_tree.specs.declared.declaration.Unit.{Unit as UnitOf}
 use Rattle.hack_tree.specs.declared.declaration.UnitTree.{UnitTree}
 use Rattle.hack_tree.specs.declared.declaration.UnitTree.TheVariants as unit
-use Rattle.hack_parse_decl.specs.Files.{absolute}
+use Rattle.hack_parse_file.specs.Files.{absolute}
 use Rattle.hack_first.specs.declared.unit.Primitive.{Primitive}
 use Rattle.hack_first.specs.declared.unit.Primitive.TheVariants.{Int, Str}
 use Rattle.hack_first.specs.declared.unit.Returned.{Returned}

@@ -4,7 +4,7 @@ ghost use Rattle.std.specs.List.{list_all};
 ghost use Rattle.hack_first.specs.FirstTrees as trees;
 
 use crate::{FirstUnit, Primitive, Returned};
-use hack_parse_decl::absolute;
+use hack_parse_file::absolute;
 use hack_tree::{
     Callable, Expr, Literal, Primitive as TypeKeyword, Stmt, Unit, UnitTree, WrittenType,
 };

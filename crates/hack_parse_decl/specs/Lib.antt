@@ -1,4 +1,1 @@
 pub mod Declarations
-pub mod Files
-pub mod Lexemes
-pub mod Room

@@ -392,7 +392,7 @@ fn constant(
 
 /// A declaration behind its attributes.
 #[tactic(auto, unfolding(crate::specs::Declarations::declared))]
-pub(crate) fn declared(
+pub fn declared(
     alloc: Global,
     cursor: &mut Cursor<'_>,
     attributes: Items<Attribute>,

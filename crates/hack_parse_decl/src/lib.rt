@@ -1,11 +1,9 @@
-//! Reads declarations and files.
+//! Reads declarations.
 #![tactic(auto)]
 
 mod declaration;
-mod file;
-mod lexemes;
 mod member;
 mod signature;
 
-pub use file::{absolute, one_tree, parse_file, room_by_length, trees_stay};
-pub use hack_parse_expr::ParseStop;
+pub use declaration::declared;
+pub use signature::{attributes_if_any, begins_attributes};

@@ -82,7 +82,7 @@ fn or_empty<T: Drop>(alloc: Global, items: Option<Items<T>>) -> Items<T>
 }
 
 /// Whether attributes come next.
-pub(crate) fn begins_attributes(cursor: &Cursor<'_>) -> bool
+pub fn begins_attributes(cursor: &Cursor<'_>) -> bool
     ensures { result ≡ begins_attributes cursor.now.left }
 {
     cursor.sees(Mark::OpenAttributes)
@@ -133,7 +133,7 @@ fn attributes(alloc: Global, cursor: &mut Cursor<'_>) -> Result<Items<Attribute>
 
 /// The attributes that come next, none where none do.
 #[tactic(auto, unfolding(crate::specs::Declarations::attributes_if_any))]
-pub(crate) fn attributes_if_any(
+pub fn attributes_if_any(
     alloc: Global,
     cursor: &mut Cursor<'_>,
 ) -> Result<Items<Attribute>, ParseStop>

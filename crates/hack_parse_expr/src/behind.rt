@@ -1,4 +1,5 @@
-// What was read already, and what stands behind it.
+// What was read already, and what stands behind it. These know nothing of what they hold, and a parser that hands it to them
+// holds no tree itself where it may stop.
 ghost use Rattle.std.specs.Prelude.{◌≡◌, Ok, Err};
 ghost use Rattle.std.specs.Result.{MatchResult};
 ghost use Rattle.hack_parse_expr.specs.Behind as spec;

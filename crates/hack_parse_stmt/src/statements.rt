@@ -162,8 +162,8 @@ fn for_head(alloc: Global, cursor: &mut Cursor<'_>, depth: usize) -> Result<ForH
     cursor.expect(Mark::OpenParen)?;
     let start = expressions_to(alloc, cursor, depth, Mark::Semicolon)?;
     let (start, condition) = beside(start, value_if_any(alloc, cursor, depth))?;
-    let last = expressions_to(alloc, cursor, depth, Mark::CloseParen);
-    let ((start, condition), step) = beside((start, condition), last)?;
+    let step = expressions_to(alloc, cursor, depth, Mark::CloseParen);
+    let ((start, condition), step) = beside((start, condition), step)?;
     Ok(ForHead {
         start,
         condition,
@@ -394,8 +394,8 @@ impl<F: Fn(Global, &mut Cursor<'_>, usize) -> Result<Stmt, ParseStop>> Statement
     {
         let at = cursor.token()?.at;
         let body = self.nested_boxed(cursor)?;
-        let last = do_condition(self.alloc, cursor, self.depth);
-        let (body, condition) = beside(body, last)?;
+        let condition = do_condition(self.alloc, cursor, self.depth);
+        let (body, condition) = beside(body, condition)?;
         Ok(Stmt::DoWhile {
             at,
             body,

@@ -4,7 +4,7 @@ use Rattle.std.specs.Prelude.{Option}
 use Rattle.std.specs.Global.{Vec}
 use Rattle.script_text.specs.Heads as heads
 use Rattle.script_text.specs.Script as script
-use Rattle.script_text.specs.Script.{Found, Broken, Open, next_head, Bad, More, Body, next_body, newlines, AtEnd, AtQuit, AtBad, One, No, Later, with_head, next_command}
+use Rattle.script_text.specs.Script.{Broken, Open, next_head, Bad, More, Body, next_body, newlines, AtBad, One, No, Later, with_head, next_command}
 use Rattle.script_text.specs.Reader.{Reader, Takes, Stops, ReadsHead, ReadsBody, head_of}
 use Rattle.script_text.specs.declared.head.Head.{Head}
 use Rattle.script_text.specs.declared.head.Head.TheVariants as head

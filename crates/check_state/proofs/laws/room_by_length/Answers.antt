@@ -1,7 +1,7 @@
 use Rattle.std.proofs.Common.{◌≤◌, ◌+◌, ◌*◌, arith}
 use Rattle.hack_base.specs.Files.{Edit, Put, Remove}
-use Rattle.hack_parse_decl.specs.Room.{most_names}
-use Rattle.hack_parse_decl.proofs.Room as names
+use Rattle.hack_parse_file.specs.Room.{most_names}
+use Rattle.hack_parse_file.proofs.Room as names
 use Rattle.check_state.specs.declared.state.State.{State}
 use Rattle.check_state.specs.Edits.{twice_names}
 use Rattle.check_state.specs.Stands.{names_of, name_count, HasRoomFor}

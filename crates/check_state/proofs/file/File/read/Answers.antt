@@ -1,7 +1,7 @@
 use Rattle.std.proofs.Common.{sym, subst, refl}
-use Rattle.hack_parse_decl.specs.Files.{IsFileStop}
+use Rattle.hack_parse_file.specs.Files.{IsFileStop}
 use Rattle.check_state.specs.Stands.{IsParsed}
-use Rattle.hack_parse_decl.proofs.OneTree.{is_tree, is_fault}
+use Rattle.hack_parse_file.proofs.OneTree.{is_tree, is_fault}
 use Rattle.check_state.proofs.file.File.read.Goals as goal
 use Rattle.check_state.proofs.file.File.read.Goals.{in-Ok, in-Err-Fault}
 

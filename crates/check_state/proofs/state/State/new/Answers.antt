@@ -3,7 +3,7 @@ use Rattle.std.specs.FinMap as finite
 use Rattle.std.specs.FinMap.{get-empty}
 use Rattle.std.specs.BTreeMap as tree
 use Rattle.hack_base.specs.Files.{byte_order}
-use Rattle.hack_parse_decl.proofs.Room.{room_by_length}
+use Rattle.hack_parse_file.proofs.Room.{room_by_length}
 use Rattle.check_state.specs.Stands.{IsRead}
 use Rattle.check_state.proofs.Standing.{stands_first, builtin_length, fixed_length}
 use Rattle.check_state.proofs.state.State.new.Goals as goal

@@ -1,5 +1,0 @@
-use Rattle.hack_parse_decl.proofs.Room as laws
-use Rattle.hack_parse_decl.proofs.file.room_by_length.Goals as goal
-
-pub returns : goal.returns
-returns c = laws.room_by_length
