@@ -1,23 +1,15 @@
 -- How the clauses of calls that ask for a class are put together.
 use Rattle.std.proofs.Common.{◌≡◌, ◌∙◌, ◌<◌, ◌≤◌, ◌+◌, ℕ, zero, suc, Bool, true, false, cond, Result, Ok, Err, List, [], ◌∷◌, length, get_or, drop, refl, sym, ap, arith}
 use Rattle.std.proofs.lemmas.List.{at_drop_more, at_drop_all}
-use Rattle.hack_decls.specs.AskLaws.{failed, said, then, unasked}
+use Rattle.hack_decls.specs.AskLaws.{said, then}
 use Rattle.hack_decls.specs.Asks.{Asks, Nothing}
 use Rattle.hack_decls.specs.DeclState.{DeclState, Map, Symbols}
 use Rattle.hack_decls.specs.declared.stop.DeclStop.{DeclStop}
 use Rattle.hack_rules.specs.Operators as rules
+use Rattle.hack_walk.specs.WalkLaws.{asked_refused}
 use Rattle.hack_operators.specs.Seen.{class_seen}
 use Rattle.hack_operators.specs.declared.class.OperandClass.{OperandClass}
 use Rattle.hack_operators.specs.inside.Asked.{first_of}
-
--- one call, and then one that is refused
-module _ {Base Held : Type 0} {A B C : Type 0} {Means : Map → A → Type 0} {Names NamesC : Symbols → Type 0} {Gives : Symbols → A → Type 0}
-    {MeansB : Map → B → Type 0} {NamesB : Symbols → Type 0} {GivesB : Symbols → B → Type 0} {MeansC : Map → C → Type 0} {GivesC : Symbols → C → Type 0}
-    {old mid new : DeclState Base Held} {a : A} where
-  pub broken : {e : DeclStop} → Asks old (Ok a) mid Means Names Gives → Asks mid (Err e) new MeansB NamesB GivesB
-      → ((symbols : Symbols) → NamesC symbols → Names symbols) → ((symbols : Symbols) → NamesC symbols → NamesB symbols) → Asks old (Err e) new MeansC NamesC GivesC
-  broken {e = e} one two more onward =
-      failed (then {MeansC = MeansB} {NamesC = NamesC} {GivesC = GivesB} (Err e) one two (λ map b m is. is) more (λ symbols n given. onward symbols n) (λ symbols b n given there. there)) (λ symbols n. n)
 
 -- ---- the loop over the classes
 
@@ -34,9 +26,6 @@ abbrev pub Tells : {Base Held : Type 0} → DeclState Base Held → Result Bool 
 Tells old result new test Names = Asks old result new (λ map answer. answer ≡ test map) Names Nothing
 
 module _ {Base Held : Type 0} where
-  pub begun : (state : DeclState Base Held) (whole : Map → rules.OperandClass) {Names : Symbols → Type 0} → SoFar state state whole whole Names
-  begun state whole = unasked state tt (λ map. refl) (λ symbols n. tt)
-
   -- nothing is left to ask
   pub ended : {old new : DeclState Base Held} {whole rest : Map → rules.OperandClass} {Names : Symbols → Type 0} → SoFar old new whole rest Names
       → (class : OperandClass) → ((map : Map) → rest map ≡ class_seen class) → Finds old (Ok class) new whole Names
@@ -60,7 +49,7 @@ module _ {Base Held : Type 0} where
         (λ map w. sym (w.0 ∙ step map w.1)) (λ symbols n. n) (λ symbols n g. tt)
 
     pub given_up : SoFar old mid whole rest Names → (e : DeclStop) → Tells mid (Err e) new test Names → Finds old (Err e) new whole Names
-    given_up so_far e tells = broken so_far tells (λ symbols n. n) (λ symbols n. n)
+    given_up so_far e tells = asked_refused so_far tells (λ symbols n g. n)
 
 -- an element by its place, whatever stands past the end
 pub by_place : {X : Type 0} (xs : List X) (i : ℕ) (d e : X) → i < length xs → get_or xs i d ≡ get_or xs i e

@@ -1,5 +1,5 @@
 -- What operators do once the classes of their operands are known, and how the clauses of their checks are put together.
-use Rattle.std.proofs.Common.{◌≡◌, ◌∙◌, ◌||◌, Bool, true, false, Option, Some, None, Ok, Err, IfSome, sym, ap, subst}
+use Rattle.std.proofs.Common.{◌≡◌, ◌∙◌, ◌||◌, Bool, true, false, Option, Some, None, Result, Ok, Err, IfSome, sym, ap, subst}
 use Rattle.std.specs.Bool.{if◌then◌else◌}
 use Rattle.hack_types.specs.declared.hack_type.HackType.{HackType}
 use Rattle.hack_types.specs.declared.hack_type.HackType.TheVariants.{Any}
@@ -13,18 +13,16 @@ use Rattle.hack_decls.specs.declared.stop.DeclStop.TheVariants as stop
 use Rattle.hack_diag.specs.Messages.{operator_refuses, sign_refuses}
 use Rattle.hack_rules.specs.Operators as rules
 use Rattle.hack_rules.specs.Operators.{class_of, given_or, is_error, operate, operate_alone, operation_text, result_of, sign_of, sign_text, signed_or}
-use Rattle.hack_rules.specs.Variables.{Variables}
 use Rattle.hack_rules.specs.Walks.{Setting, State, ◌>>=◌, pure, reads, refuse}
-use Rattle.hack_sub.specs.declared.scope.Scope.{Scope}
 use Rattle.hack_sub.specs.NamesPut.{of_any}
-use Rattle.hack_walk.specs.Checks.{BodyIn, Steps, Walks}
-use Rattle.hack_walk.specs.WalkLaws.{step_pure}
+use Rattle.hack_walk.specs.Checks.{BodyIn, Reads, Steps, Walks}
+use Rattle.hack_walk.specs.WalkLaws.{asked_out_of_memory, asked_refused, of_step, reads_walks, step_pure}
 use Rattle.hack_operators.proofs.Naming.{Plain, results, signs}
 use Rattle.hack_operators.proofs.Stepping.{steps_as}
 use Rattle.hack_operators.specs.Operands.{OperandIn, OperandsIn}
 use Rattle.hack_operators.specs.Seen.{class_seen}
 use Rattle.hack_operators.specs.declared.class.OperandClass.{OperandClass}
-use Rattle.hack_operators.specs.inside.Calls.{BothIn, are_classes, operated, signed}
+use Rattle.hack_operators.specs.inside.Calls.{operated, signed}
 
 of_some : (ty : HackType) (o : Option HackType) → Some ty ≡ o → IfSome o Plain → Plain ty
 of_some ty o is plain = subst (λ (x : Option HackType). IfSome x Plain) (sym is) plain
@@ -73,63 +71,78 @@ module _ (at : Place) (sign : rules.Sign) (operand : HackType) (class : rules.Op
 
 -- ---- the checks
 
-module _ (setting : Setting) (at : Place) (before : State) where
-  as_operated : (operation : rules.Operation) (left right : HackType) (map : Map) (classes : OperandClass × OperandClass) → are_classes map setting.scope left right classes
-      → operate at operation left right setting map before ≡ operated at operation left right (class_seen classes.0) (class_seen classes.1) setting map before
-  unfolding operate reads ◌>>=◌
-  as_operated operation left right map classes are =
-      sym (ap (λ (b : rules.OperandClass). operated at operation left right (class_seen classes.0) b setting map before) are.1
-      ∙ ap (λ (a : rules.OperandClass). operated at operation left right a (class_of map setting.scope right) setting map before) are.0)
+-- a call that asks for the class of an operand
+abbrev pub Classed : {Base Held : Type 0} → Setting → HackType → DeclState Base Held → Result OperandClass DeclStop → DeclState Base Held → Type 0
+Classed setting operand old result new =
+    Asks old result new (λ map class. class_seen class ≡ class_of map setting.scope operand) (λ symbols. OperandIn symbols setting.scope operand) Nothing
 
-  as_signed : (sign : rules.Sign) (operand : HackType) (map : Map) (class : OperandClass) → class_seen class ≡ class_of map setting.scope operand
-      → operate_alone at sign operand setting map before ≡ signed at sign operand (class_seen class) setting map before
-  unfolding operate_alone reads ◌>>=◌
-  as_signed sign operand map class is = sym (ap (λ (c : rules.OperandClass). signed at sign operand c setting map before) is)
+module _ {Base Held : Type 0} {old new : DeclState Base Held} (setting : Setting) (operand : HackType) where
+  -- as the row reads it
+  read : (class : OperandClass) → Classed setting operand old (Ok class) new
+      → Reads (λ map scope. class_of map scope operand) setting.scope old (Ok (class_seen class)) new (λ symbols. OperandIn symbols setting.scope operand) Nothing
+  read class asks = said (class_seen class) asks (λ map is. is) (λ symbols n. n) (λ symbols n g. tt)
 
-module _ (symbols : Symbols) (scope : Scope) (variables : Variables) where
-  names_both : (left right : HackType) → BodyIn symbols scope variables × OperandsIn symbols left right → BothIn symbols scope left right
-  names_both left right n = record { around = n.0.around; left = n.1.left; right = n.1.right }
+-- what the whole is given is what each question is given
+module _ (setting : Setting) (here : State) where
+  abbrev Both : HackType → HackType → Symbols → Type 0
+  Both left right symbols = BodyIn symbols setting.scope here.variables × OperandsIn symbols left right
 
-  names_one : (operand : HackType) → BodyIn symbols scope variables × TypeIn symbols operand → OperandIn symbols scope operand
-  names_one operand n = record { around = n.0.around; operand = n.1 }
+  abbrev One : HackType → Symbols → Type 0
+  One operand symbols = BodyIn symbols setting.scope here.variables × TypeIn symbols operand
+
+  lower : (left right : HackType) (symbols : Symbols) → Both left right symbols → OperandIn symbols setting.scope left
+  lower left right symbols n = record { around = n.0.around; operand = n.1.left }
+
+  upper : (left right : HackType) (symbols : Symbols) → Both left right symbols → OperandIn symbols setting.scope right
+  upper left right symbols n = record { around = n.0.around; operand = n.1.right }
+
+  alone : (operand : HackType) (symbols : Symbols) → One operand symbols → OperandIn symbols setting.scope operand
+  alone operand symbols n = record { around = n.0.around; operand = n.1 }
+
+  -- the first question, given both operands
+  widely : {Base Held : Type 0} {old new : DeclState Base Held} (left right : HackType) (first : OperandClass) → Classed setting left old (Ok first) new
+      → Asks old (Ok first) new (λ map class. class_seen class ≡ class_of map setting.scope left) (Both left right) Nothing
+  widely left right first asks = said first asks (λ map is. is) (lower left right) (λ symbols n g. tt)
 
 module _ {Base Held : Type 0} {old new : DeclState Base Held} {before behind : State} (setting : Setting) (at : Place) where
   module _ (operation : rules.Operation) (left right : HackType) where
-    pub operate_answers : (classes : OperandClass × OperandClass) (answer : HackType)
-        → Asks old (Ok classes) new (λ map c. are_classes map setting.scope left right c) (λ symbols. BothIn symbols setting.scope left right) Nothing
-        → Steps (operated at operation left right (class_seen classes.0) (class_seen classes.1)) setting before (Ok answer) behind (λ symbols. OperandsIn symbols left right) TypeIn
+    pub operate_answers : {mid : DeclState Base Held} (first second : OperandClass) (answer : HackType) → Classed setting left old (Ok first) mid → Classed setting right mid (Ok second) new
+        → Steps (operated at operation left right (class_seen first) (class_seen second)) setting before (Ok answer) behind (λ symbols. OperandsIn symbols left right) TypeIn
         → Walks (operate at operation left right) setting old before (Ok answer) new behind (λ symbols. OperandsIn symbols left right) TypeIn
-    operate_answers classes answer asks steps = record {
-      asks = said answer asks (λ map are. as_operated setting at before operation left right map classes are ∙ steps.is map)
-          (λ symbols n. names_both symbols setting.scope before.variables left right n) (λ symbols n g. steps.named symbols n.0 n.1);
-    }
+    unfolding operate
+    operate_answers first second answer one two steps =
+        reads_walks {NamesB = λ symbols. OperandsIn symbols left right} {GivesB = TypeIn} (λ map scope. class_of map scope left)
+        (λ a. reads (λ map scope. class_of map scope right) >>= (λ b. operated at operation left right a b)) (Ok answer) (read setting left first one)
+        (reads_walks {NamesB = λ symbols. OperandsIn symbols left right} {GivesB = TypeIn} (λ map scope. class_of map scope right) (λ b. operated at operation left right (class_seen first) b)
+        (Ok answer) (read setting right second two) (of_step new steps)
+        (λ symbols around n. record { around = around; operand = n.right }) (λ symbols n g. n) (λ symbols b n g h. h))
+        (λ symbols around n. record { around = around; operand = n.left }) (λ symbols n g. n) (λ symbols b n g h. h)
 
-    pub operate_fails : (e : DeclStop)
-        → Asks old (Err e) new (λ map c. are_classes map setting.scope left right c) (λ symbols. BothIn symbols setting.scope left right) Nothing
+    pub left_fails : (e : DeclStop) → Classed setting left old (Err e) new
         → Walks (operate at operation left right) setting old before (Err e) new behind (λ symbols. OperandsIn symbols left right) TypeIn
-    operate_fails e asks = record { asks = failed asks (λ symbols n. names_both symbols setting.scope before.variables left right n) }
+    left_fails e one = record { asks = failed one (lower setting before left right) }
 
-    pub operate_without_memory : (classes : OperandClass × OperandClass)
-        → Asks old (Ok classes) new (λ map c. are_classes map setting.scope left right c) (λ symbols. BothIn symbols setting.scope left right) Nothing
+    pub right_fails : {mid : DeclState Base Held} (first : OperandClass) (e : DeclStop) → Classed setting left old (Ok first) mid → Classed setting right mid (Err e) new
+        → Walks (operate at operation left right) setting old before (Err e) new behind (λ symbols. OperandsIn symbols left right) TypeIn
+    right_fails first e one two = record { asks = asked_refused (widely setting before left right first one) two (λ symbols n g. upper setting before left right symbols n) }
+
+    pub operate_without_memory : {mid : DeclState Base Held} (first second : OperandClass) → Classed setting left old (Ok first) mid → Classed setting right mid (Ok second) new
         → Walks (operate at operation left right) setting old before (Err stop.NoMemory) new behind (λ symbols. OperandsIn symbols left right) TypeIn
-    operate_without_memory classes asks = record { asks = without_memory asks (λ symbols n. names_both symbols setting.scope before.variables left right n) }
+    operate_without_memory first second one two = record { asks = asked_out_of_memory (widely setting before left right first one) two (λ symbols n g. upper setting before left right symbols n) }
 
-  module _ (sign : rules.Sign) (operand : HackType) where
-    pub alone_answers : (class : OperandClass) (answer : HackType)
-        → Asks old (Ok class) new (λ map c. class_seen c ≡ class_of map setting.scope operand) (λ symbols. OperandIn symbols setting.scope operand) Nothing
-        → Steps (signed at sign operand (class_seen class)) setting before (Ok answer) behind (λ symbols. TypeIn symbols operand) TypeIn
-        → Walks (operate_alone at sign operand) setting old before (Ok answer) new behind (λ symbols. TypeIn symbols operand) TypeIn
-    alone_answers class answer asks steps = record {
-      asks = said answer asks (λ map is. as_signed setting at before sign operand map class is ∙ steps.is map)
-          (λ symbols n. names_one symbols setting.scope before.variables operand n) (λ symbols n g. steps.named symbols n.0 n.1);
-    }
+module _ {Base Held : Type 0} {old new : DeclState Base Held} {before behind : State} (setting : Setting) (at : Place) (sign : rules.Sign) (operand : HackType) where
+  pub alone_answers : (class : OperandClass) (answer : HackType) → Classed setting operand old (Ok class) new
+      → Steps (signed at sign operand (class_seen class)) setting before (Ok answer) behind (λ symbols. TypeIn symbols operand) TypeIn
+      → Walks (operate_alone at sign operand) setting old before (Ok answer) new behind (λ symbols. TypeIn symbols operand) TypeIn
+  unfolding operate_alone
+  alone_answers class answer asks steps =
+      reads_walks {NamesB = λ symbols. TypeIn symbols operand} {GivesB = TypeIn} (λ map scope. class_of map scope operand) (λ c. signed at sign operand c) (Ok answer)
+      (read setting operand class asks) (of_step new steps) (λ symbols around n. record { around = around; operand = n }) (λ symbols n g. n) (λ symbols b n g h. h)
 
-    pub alone_fails : (e : DeclStop)
-        → Asks old (Err e) new (λ map c. class_seen c ≡ class_of map setting.scope operand) (λ symbols. OperandIn symbols setting.scope operand) Nothing
-        → Walks (operate_alone at sign operand) setting old before (Err e) new behind (λ symbols. TypeIn symbols operand) TypeIn
-    alone_fails e asks = record { asks = failed asks (λ symbols n. names_one symbols setting.scope before.variables operand n) }
+  pub alone_fails : (e : DeclStop) → Classed setting operand old (Err e) new
+      → Walks (operate_alone at sign operand) setting old before (Err e) new behind (λ symbols. TypeIn symbols operand) TypeIn
+  alone_fails e asks = record { asks = failed asks (alone setting before operand) }
 
-    pub alone_without_memory : (class : OperandClass)
-        → Asks old (Ok class) new (λ map c. class_seen c ≡ class_of map setting.scope operand) (λ symbols. OperandIn symbols setting.scope operand) Nothing
-        → Walks (operate_alone at sign operand) setting old before (Err stop.NoMemory) new behind (λ symbols. TypeIn symbols operand) TypeIn
-    alone_without_memory class asks = record { asks = without_memory asks (λ symbols n. names_one symbols setting.scope before.variables operand n) }
+  pub alone_without_memory : (class : OperandClass) → Classed setting operand old (Ok class) new
+      → Walks (operate_alone at sign operand) setting old before (Err stop.NoMemory) new behind (λ symbols. TypeIn symbols operand) TypeIn
+  alone_without_memory class asks = record { asks = without_memory asks (alone setting before operand) }

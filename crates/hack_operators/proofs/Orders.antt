@@ -1,5 +1,5 @@
 -- What operators give is the same in either order, and `_` where an operand is in error.
-use Rattle.std.proofs.Common.{◌≡◌, ◌∙◌, ◌&&◌, ◌||◌, Bool, true, false, Option, refl, ap}
+use Rattle.std.proofs.Common.{◌≡◌, ◌∙◌, ◌&&◌, ◌||◌, Bool, true, false, refl, ap}
 use Rattle.std.specs.Bool.{if◌then◌else◌}
 use Rattle.hack_types.specs.declared.hack_type.HackType.{HackType}
 use Rattle.hack_types.specs.declared.hack_type.HackType.TheVariants as type

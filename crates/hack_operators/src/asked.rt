@@ -36,7 +36,7 @@ pub fn class_of<D: Decls>(
         (λ map class. class_seen class ≡ class_of map setting.now.scope.now ty.now)
         (λ symbols. OperandIn symbols setting.now.scope.now ty.now) Nothing }
 {
-    // what is told without a question is told by the trees of the rules
+    // that a primitive is of its own class alone, the trees of the rules say
     one_relation();
     match plain_class(ty) {
         Some(class) => Ok(class),

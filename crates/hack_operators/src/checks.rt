@@ -1,6 +1,5 @@
 // What operators make of their operands.
 ghost use Rattle.std.specs.Prelude.{◌≡◌, ◌||◌};
-ghost use Rattle.hack_decls.specs.Asks.{Asks, Nothing};
 ghost use Rattle.hack_decls.specs.Names.{TypeIn};
 ghost use Rattle.hack_diag.specs.Messages.{operator_refuses, sign_refuses};
 ghost use Rattle.hack_rules.specs.Operators.{is_error, operate, operate_alone, operation_text, sign_text};
@@ -8,7 +7,7 @@ ghost use Rattle.hack_rules.specs.Walks.{refuse};
 ghost use Rattle.hack_walk.specs.Checks.{Steps, Walks, setting_of};
 ghost use Rattle.hack_operators.specs.Operands.{OperandsIn};
 ghost use Rattle.hack_operators.specs.Seen.{class_seen, operation_seen, sign_seen};
-ghost use Rattle.hack_operators.specs.inside.Calls.{BothIn, are_classes, operated, signed};
+ghost use Rattle.hack_operators.specs.inside.Calls.{operated, signed};
 
 use crate::{OperandClass, Operation, Sign, class_of, result_of, sign_of};
 use hack_decls::{DeclStop, Decls};
@@ -34,7 +33,8 @@ pub fn operate<D: Decls>(
         (setting_of setting.now) (D.state decls.old) state.old result (D.state decls.new) state.new
         (λ symbols. OperandsIn symbols left.now right.now) TypeIn }
 {
-    let (first, second) = classes_of(alloc, setting, decls, left, right)?;
+    let first = class_of(alloc, setting, decls, left)?;
+    let second = class_of(alloc, setting, decls, right)?;
     Ok(operated(
         alloc, setting, state, at, operation, left, right, first, second,
     )?)
@@ -58,23 +58,6 @@ pub fn operate_alone<D: Decls>(
 {
     let class = class_of(alloc, setting, decls, operand)?;
     Ok(signed(alloc, setting, state, at, sign, operand, class)?)
-}
-
-// The classes of two operands, from left to right.
-fn classes_of<D: Decls>(
-    alloc: Global,
-    setting: &Setting<'_>,
-    decls: &mut D,
-    left: &HackType,
-    right: &HackType,
-) -> Result<(OperandClass, OperandClass), DeclStop>
-    ensures { Asks (D.state decls.old) result (D.state decls.new)
-        (λ map classes. are_classes map setting.now.scope.now left.now right.now classes)
-        (λ symbols. BothIn symbols setting.now.scope.now left.now right.now) Nothing }
-{
-    let first = class_of(alloc, setting, decls, left)?;
-    let second = class_of(alloc, setting, decls, right)?;
-    Ok((first, second))
 }
 
 // What the table has for two classes, and 4012 where it has nothing.

@@ -66,7 +66,7 @@ impl Operation {
     }
 }
 
-/// The operation of an operator between two operands, where it has a table.
+/// The operation of an operator between two operands, where it has a table (docs/language.md, Typing expressions, Operators).
 pub fn operation_of(operator: BinaryOperator) -> Option<Operation>
     ensures { option_map operation_seen result ≡ operation_of operator }
 {
@@ -95,7 +95,7 @@ pub fn operation_of(operator: BinaryOperator) -> Option<Operation>
     }
 }
 
-/// The operation of an assignment's operator, where it has a table.
+/// The operation of an assignment's operator, where it has a table (docs/language.md, Typing expressions, Assignment).
 pub fn assigning(operator: AssignOperator) -> Option<Operation>
     ensures { option_map operation_seen result ≡ assigning operator }
 {

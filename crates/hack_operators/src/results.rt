@@ -9,9 +9,9 @@ use crate::{OperandClass, Operation};
 use case_table::{Grid, grid};
 use hack_types::HackType;
 
-// What stands in the tables: a type, or N where the operator does not take the operands. Rows and columns stand in the order of
+// What stands in the tables: a type, or NO where the operator does not take the operands. Rows and columns stand in the order of
 // the classes: error, int, float, num, string, bool, arraykey, other.
-const N: u8 = 0;
+const NO: u8 = 0;
 
 const INT: u8 = 1;
 
@@ -47,14 +47,14 @@ fn sum_of(left: OperandClass, right: OperandClass) -> Option<HackType>
     ensures { result ≡ sum_of (class_seen left) (class_seen right) }
 {
     let table = grid!(
-        [N, N, N, N, N, N, N, N],
-        [N, INT, FLOAT, NUM, N, N, N, N],
-        [N, FLOAT, FLOAT, FLOAT, N, N, N, N],
-        [N, NUM, FLOAT, NUM, N, N, N, N],
-        [N, N, N, N, N, N, N, N],
-        [N, N, N, N, N, N, N, N],
-        [N, N, N, N, N, N, N, N],
-        [N, N, N, N, N, N, N, N],
+        [NO, NO, NO, NO, NO, NO, NO, NO],
+        [NO, INT, FLOAT, NUM, NO, NO, NO, NO],
+        [NO, FLOAT, FLOAT, FLOAT, NO, NO, NO, NO],
+        [NO, NUM, FLOAT, NUM, NO, NO, NO, NO],
+        [NO, NO, NO, NO, NO, NO, NO, NO],
+        [NO, NO, NO, NO, NO, NO, NO, NO],
+        [NO, NO, NO, NO, NO, NO, NO, NO],
+        [NO, NO, NO, NO, NO, NO, NO, NO],
     );
     type_at(&table, left, right)
 }
@@ -64,14 +64,14 @@ fn quotient_of(left: OperandClass, right: OperandClass) -> Option<HackType>
     ensures { result ≡ quotient_of (class_seen left) (class_seen right) }
 {
     let table = grid!(
-        [N, N, N, N, N, N, N, N],
-        [N, NUM, FLOAT, NUM, N, N, N, N],
-        [N, FLOAT, FLOAT, FLOAT, N, N, N, N],
-        [N, NUM, FLOAT, NUM, N, N, N, N],
-        [N, N, N, N, N, N, N, N],
-        [N, N, N, N, N, N, N, N],
-        [N, N, N, N, N, N, N, N],
-        [N, N, N, N, N, N, N, N],
+        [NO, NO, NO, NO, NO, NO, NO, NO],
+        [NO, NUM, FLOAT, NUM, NO, NO, NO, NO],
+        [NO, FLOAT, FLOAT, FLOAT, NO, NO, NO, NO],
+        [NO, NUM, FLOAT, NUM, NO, NO, NO, NO],
+        [NO, NO, NO, NO, NO, NO, NO, NO],
+        [NO, NO, NO, NO, NO, NO, NO, NO],
+        [NO, NO, NO, NO, NO, NO, NO, NO],
+        [NO, NO, NO, NO, NO, NO, NO, NO],
     );
     type_at(&table, left, right)
 }
@@ -81,14 +81,14 @@ fn bits_of(left: OperandClass, right: OperandClass) -> Option<HackType>
     ensures { result ≡ bits_of (class_seen left) (class_seen right) }
 {
     let table = grid!(
-        [N, N, N, N, N, N, N, N],
-        [N, INT, N, N, N, N, N, N],
-        [N, N, N, N, N, N, N, N],
-        [N, N, N, N, N, N, N, N],
-        [N, N, N, N, N, N, N, N],
-        [N, N, N, N, N, N, N, N],
-        [N, N, N, N, N, N, N, N],
-        [N, N, N, N, N, N, N, N],
+        [NO, NO, NO, NO, NO, NO, NO, NO],
+        [NO, INT, NO, NO, NO, NO, NO, NO],
+        [NO, NO, NO, NO, NO, NO, NO, NO],
+        [NO, NO, NO, NO, NO, NO, NO, NO],
+        [NO, NO, NO, NO, NO, NO, NO, NO],
+        [NO, NO, NO, NO, NO, NO, NO, NO],
+        [NO, NO, NO, NO, NO, NO, NO, NO],
+        [NO, NO, NO, NO, NO, NO, NO, NO],
     );
     type_at(&table, left, right)
 }
@@ -98,14 +98,14 @@ fn text_of(left: OperandClass, right: OperandClass) -> Option<HackType>
     ensures { result ≡ text_of (class_seen left) (class_seen right) }
 {
     let table = grid!(
-        [N, N, N, N, N, N, N, N],
-        [N, STR, STR, STR, STR, N, STR, N],
-        [N, STR, STR, STR, STR, N, STR, N],
-        [N, STR, STR, STR, STR, N, STR, N],
-        [N, STR, STR, STR, STR, N, STR, N],
-        [N, N, N, N, N, N, N, N],
-        [N, STR, STR, STR, STR, N, STR, N],
-        [N, N, N, N, N, N, N, N],
+        [NO, NO, NO, NO, NO, NO, NO, NO],
+        [NO, STR, STR, STR, STR, NO, STR, NO],
+        [NO, STR, STR, STR, STR, NO, STR, NO],
+        [NO, STR, STR, STR, STR, NO, STR, NO],
+        [NO, STR, STR, STR, STR, NO, STR, NO],
+        [NO, NO, NO, NO, NO, NO, NO, NO],
+        [NO, STR, STR, STR, STR, NO, STR, NO],
+        [NO, NO, NO, NO, NO, NO, NO, NO],
     );
     type_at(&table, left, right)
 }
@@ -115,14 +115,14 @@ fn order_of(ty: HackType, left: OperandClass, right: OperandClass) -> Option<Hac
     ensures { result ≡ order_of ty (class_seen left) (class_seen right) }
 {
     let table = grid!(
-        [N, N, N, N, N, N, N, N],
-        [N, YES, YES, YES, N, N, N, N],
-        [N, YES, YES, YES, N, N, N, N],
-        [N, YES, YES, YES, N, N, N, N],
-        [N, N, N, N, YES, N, N, N],
-        [N, N, N, N, N, N, N, N],
-        [N, N, N, N, N, N, N, N],
-        [N, N, N, N, N, N, N, N],
+        [NO, NO, NO, NO, NO, NO, NO, NO],
+        [NO, YES, YES, YES, NO, NO, NO, NO],
+        [NO, YES, YES, YES, NO, NO, NO, NO],
+        [NO, YES, YES, YES, NO, NO, NO, NO],
+        [NO, NO, NO, NO, YES, NO, NO, NO],
+        [NO, NO, NO, NO, NO, NO, NO, NO],
+        [NO, NO, NO, NO, NO, NO, NO, NO],
+        [NO, NO, NO, NO, NO, NO, NO, NO],
     );
     given_if(is_marked(&table, left, right), ty)
 }

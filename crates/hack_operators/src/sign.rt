@@ -32,7 +32,7 @@ impl Sign {
     }
 }
 
-/// The sign that an operator before an operand is, where it has a table.
+/// The sign that an operator before an operand is, where it has a table (docs/language.md, Typing expressions, Operators).
 pub fn sign_before(operator: PrefixOperator) -> Option<Sign>
     ensures { option_map sign_seen result ≡ sign_before operator }
 {
@@ -44,7 +44,8 @@ pub fn sign_before(operator: PrefixOperator) -> Option<Sign>
     }
 }
 
-/// What a sign gives for a class, where it takes it: `-` and `+` the number's type, `~` an int for an int.
+/// What a sign gives for a class, where it takes it: `-` and `+` the number's type, `~` an int for an int (docs/language.md, Typing
+/// expressions, Operators).
 #[tactic(auto, unfolding(hack_rules::specs::Operators::sign_of))]
 pub fn sign_of(sign: Sign, class: OperandClass) -> Option<HackType>
     ensures { result ≡ sign_of (sign_seen sign) (class_seen class) }
