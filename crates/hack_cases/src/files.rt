@@ -2,7 +2,7 @@
 
 use crate::plain::{note, push_fault, push_made};
 use crate::run::Table;
-use crate::{below, folding, inferring, types};
+use crate::{below, folding, inferring, operators, types};
 use hack_first::{FirstUnit, Primitive, Returned, are_first, first_unit};
 use hack_parse_file::{ParseStop, parse_file, room_by_length};
 use hack_shallow::shallow_of;
@@ -21,7 +21,7 @@ pub(crate) fn of_file(
     let mut names = Names::new(alloc);
     let parsed = parsed(alloc, &mut names, text);
     let mut shown = Out::new(alloc, &names);
-    show_parsed(alloc, table, &mut shown, &parsed);
+    show_parsed(alloc, table, &mut shown, &names, &parsed);
     drop(parsed);
     push_made(out, shown.finish());
     drop(names);
@@ -40,11 +40,12 @@ fn show_parsed(
     alloc: Global,
     table: Table,
     out: &mut Out<'_>,
+    names: &Names,
     parsed: &Result<FileTree, ParseStop>,
 ) {
     match parsed {
         Ok(tree) => {
-            let done = show(alloc, table, out, tree);
+            let done = show(alloc, table, out, names, tree);
             note(out, done);
         }
         Err(ParseStop::Fault { place, code }) => match table {
@@ -55,7 +56,13 @@ fn show_parsed(
     }
 }
 
-fn show(alloc: Global, table: Table, out: &mut Out<'_>, tree: &FileTree) -> Result<(), NoMemory> {
+fn show(
+    alloc: Global,
+    table: Table,
+    out: &mut Out<'_>,
+    names: &Names,
+    tree: &FileTree,
+) -> Result<(), NoMemory> {
     let units = tree.units.as_slice();
     match table {
         Table::Trees => {
@@ -71,6 +78,7 @@ fn show(alloc: Global, table: Table, out: &mut Out<'_>, tree: &FileTree) -> Resu
         Table::Lines => folding::show_last(alloc, out, units, true),
         Table::Below => below::show_last(alloc, out, units),
         Table::Solved => inferring::show_last(alloc, out, units),
+        Table::Operators => operators::show_last(alloc, out, names, units),
         Table::Different => types::different(alloc, out, units),
         Table::Files => {
             out.word("ok");

@@ -23,6 +23,8 @@ mod machine;
 #[cfg(test)]
 mod naming;
 #[cfg(test)]
+mod operators;
+#[cfg(test)]
 mod plain;
 #[cfg(test)]
 mod rows;

@@ -9,6 +9,7 @@ pub(crate) mod inferring;
 pub(crate) mod lexer;
 pub(crate) mod machine;
 pub(crate) mod naming;
+pub(crate) mod operators;
 pub(crate) mod parse_decl;
 pub(crate) mod scripts;
 pub(crate) mod serve;

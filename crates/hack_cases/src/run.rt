@@ -46,6 +46,7 @@ pub(crate) enum Table {
     Lines,
     Below,
     Solved,
+    Operators,
     Units,
     Machine,
     Served(usize),
@@ -53,7 +54,7 @@ pub(crate) enum Table {
     Statuses,
 }
 
-const ALL: [Table; 42] = [
+const ALL: [Table; 43] = [
     Table::Words,
     Table::Lists,
     Table::NoWords,
@@ -89,6 +90,7 @@ const ALL: [Table; 42] = [
     Table::Lines,
     Table::Below,
     Table::Solved,
+    Table::Operators,
     Table::Units,
     Table::Machine,
     Table::Served(1),
@@ -134,6 +136,7 @@ impl Table {
             Table::Lines => rows::folding::LINES,
             Table::Below => rows::below::BELOW,
             Table::Solved => rows::inferring::SOLVED,
+            Table::Operators => rows::operators::OPERATORS,
             Table::Units => rows::first::UNITS,
             Table::Machine => rows::machine::RUNS,
             Table::Served(_) => rows::serve::SERVED,
@@ -179,7 +182,7 @@ impl Table {
 #[test]
 fn each_row_has_its_answer(rt: HostRuntime) -> Result<(), Fail> {
     let report = try_all(rt.alloc())?;
-    assert_eq!(rt; str::from_utf8(&report).unwrap_or("?"), "1055 rows");
+    assert_eq!(rt; str::from_utf8(&report).unwrap_or("?"), "1139 rows");
     Ok(())
 }
 
