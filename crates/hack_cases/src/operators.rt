@@ -220,8 +220,8 @@ fn of_unit(
     }
 }
 
-/// Shows what the operator that the last function returns gives for its parameters, over all declarations, and the diagnostics. A name
-/// that several parameters have takes the union of their types, and one that none has is `_`.
+/// Shows what the operator that the last function returns gives for its parameters, over all declarations, and the diagnostics. A
+/// name that several parameters have takes the union of their types, and one that none has is `_`.
 pub(crate) fn show_last(
     alloc: Global,
     out: &mut Out<'_>,

@@ -17,9 +17,11 @@ pub fn either_order()
 /// Where one operand is in error the whole is `_`, without a diagnostic (docs/language.md, Typing expressions, Operators).
 pub fn error_is_silent()
     ensures left { (at : Place) (operation : rules.Operation) (left right : HackType)
-        (setting : Setting) (map : Map) (state : State) → class_of map setting.scope left ≡ rules.error
+        (setting : Setting) (map : Map) (state : State)
+        → class_of map setting.scope left ≡ rules.error
         → operate at operation left right setting map state ≡ (type.Any, state) }
     ensures right { (at : Place) (operation : rules.Operation) (left right : HackType)
-        (setting : Setting) (map : Map) (state : State) → class_of map setting.scope right ≡ rules.error
+        (setting : Setting) (map : Map) (state : State)
+        → class_of map setting.scope right ≡ rules.error
         → operate at operation left right setting map state ≡ (type.Any, state) }
 {}
