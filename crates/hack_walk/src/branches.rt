@@ -3,10 +3,11 @@ ghost use Rattle.std.specs.Prelude.{◌≡◌, IfOk, Some, option_copied};
 ghost use Rattle.hack_decls.specs.Asks.{Asks};
 ghost use Rattle.hack_decls.specs.Names.{TypeIn};
 ghost use Rattle.hack_infer.specs.WithoutNull.{without_null};
+ghost use Rattle.hack_sub.specs.Named.{PairIn};
 ghost use Rattle.hack_rules.specs.Refining.{bare_branches, behind_as, swapped, tested_branches, where_is, where_is_not};
 ghost use Rattle.hack_rules.specs.Variables.{refined, with_variable};
 ghost use Rattle.hack_walk.specs.Checks.{BranchesIn, Reads, VariablesIn, Walks, setting_of};
-ghost use Rattle.hack_walk.specs.inside.Calls.{OwnIn, TestIn, branches_with, put_at, subject_type};
+ghost use Rattle.hack_walk.specs.inside.Calls.{OwnIn, TestIn, branches_with, put_at, subject_type, where_by};
 
 use crate::{Setting, State, Variables, where_is, where_is_not};
 use hack_decls::{DeclStop, Decls};
@@ -81,13 +82,14 @@ pub fn behind_as<D: Decls>(
         (D.state decls.old) state.now result (D.state decls.new) state.now
         (λ symbols. TypeIn symbols tested.now) VariablesIn }
 {
-    where_so(
+    refined_by(
         alloc,
         decls,
         setting.scope,
         state.variables(),
         subject,
         tested,
+        Outcome::Holds,
     )
 }
 
@@ -131,6 +133,13 @@ pub fn bare_branches<D: Decls>(
     present_or_not(alloc, decls, state.variables(), name)
 }
 
+// Which outcome of a test.
+#[derive(Clone, Copy)]
+enum Outcome {
+    Holds,
+    Fails,
+}
+
 // Both.
 fn both<D: Decls>(
     alloc: Global,
@@ -148,32 +157,33 @@ fn both<D: Decls>(
 {
     // a copy of its own for each call
     let again = subject;
-    let when_true = where_so(alloc, decls, scope, here, subject, tested)?;
-    let when_false = where_not(alloc, decls, scope, here, again, tested)?;
+    let when_true = refined_by(alloc, decls, scope, here, subject, tested, Outcome::Holds)?;
+    let when_false = refined_by(alloc, decls, scope, here, again, tested, Outcome::Fails)?;
     Ok(Branches::new(when_true, when_false))
 }
 
-// The variables where the test holds.
-fn where_so<D: Decls>(
+// The variables where the test has this outcome.
+fn refined_by<D: Decls>(
     alloc: Global,
     decls: &mut D,
     scope: &Scope,
     here: &Variables,
     subject: Option<NameId>,
     tested: &HackType,
+    outcome: Outcome,
 ) -> Result<Variables, DeclStop>
-    ensures { Reads (λ map scope. refined here.now subject (where_is map scope tested.now))
+    ensures { Reads (λ map scope. refined here.now subject (where_by outcome map scope tested.now))
         scope.now (D.state decls.old) result (D.state decls.new)
         (λ symbols. TestIn symbols scope.now here.now tested.now) VariablesIn }
 {
     match subject_type(here, subject) {
-        Some(own) => put_so(alloc, decls, scope, here, subject, tested, own),
+        Some(own) => put_refined(alloc, decls, scope, here, subject, tested, own, outcome),
         None => Ok(here.copy(alloc)?),
     }
 }
 
 // Where the tested variable has this type.
-fn put_so<D: Decls>(
+fn put_refined<D: Decls>(
     alloc: Global,
     decls: &mut D,
     scope: &Scope,
@@ -181,52 +191,34 @@ fn put_so<D: Decls>(
     subject: Option<NameId>,
     tested: &HackType,
     own: &HackType,
+    outcome: Outcome,
 ) -> Result<Variables, DeclStop>
     ensures { Reads (λ map scope. put_at here.now subject
-        (Some (where_is map scope tested.now own.now)))
+        (Some (where_by outcome map scope tested.now own.now)))
         scope.now (D.state decls.old) result (D.state decls.new)
         (λ symbols. OwnIn symbols scope.now here.now tested.now own.now) VariablesIn }
 {
-    let ty = where_is(alloc, decls, scope, tested, own)?;
+    let ty = type_by(alloc, decls, scope, tested, own, outcome)?;
     Ok(copy_with(alloc, here, subject, ty)?)
 }
 
-// The variables where it doesn't.
-fn where_not<D: Decls>(
+// What a type becomes by a test with this outcome.
+fn type_by<D: Decls>(
     alloc: Global,
     decls: &mut D,
     scope: &Scope,
-    here: &Variables,
-    subject: Option<NameId>,
-    tested: &HackType,
-) -> Result<Variables, DeclStop>
-    ensures { Reads (λ map scope. refined here.now subject (where_is_not map scope tested.now))
-        scope.now (D.state decls.old) result (D.state decls.new)
-        (λ symbols. TestIn symbols scope.now here.now tested.now) VariablesIn }
-{
-    match subject_type(here, subject) {
-        Some(own) => put_not(alloc, decls, scope, here, subject, tested, own),
-        None => Ok(here.copy(alloc)?),
-    }
-}
-
-// Where the tested variable has this type.
-fn put_not<D: Decls>(
-    alloc: Global,
-    decls: &mut D,
-    scope: &Scope,
-    here: &Variables,
-    subject: Option<NameId>,
     tested: &HackType,
     own: &HackType,
-) -> Result<Variables, DeclStop>
-    ensures { Reads (λ map scope. put_at here.now subject
-        (Some (where_is_not map scope tested.now own.now)))
-        scope.now (D.state decls.old) result (D.state decls.new)
-        (λ symbols. OwnIn symbols scope.now here.now tested.now own.now) VariablesIn }
+    outcome: Outcome,
+) -> Result<HackType, DeclStop>
+    ensures { Reads (λ map scope. where_by outcome map scope tested.now own.now) scope.now
+        (D.state decls.old) result (D.state decls.new)
+        (λ symbols. PairIn symbols scope.now tested.now own.now) TypeIn }
 {
-    let ty = where_is_not(alloc, decls, scope, tested, own)?;
-    Ok(copy_with(alloc, here, subject, ty)?)
+    match outcome {
+        Outcome::Holds => where_is(alloc, decls, scope, tested, own),
+        Outcome::Fails => where_is_not(alloc, decls, scope, tested, own),
+    }
 }
 
 // The variable without null, and as it is.

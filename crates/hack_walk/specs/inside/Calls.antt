@@ -16,7 +16,10 @@ use Rattle.hack_sub.specs.Sub.{most_height}
 use Rattle.hack_sub.specs.declared.scope.Scope.{Scope}
 use Rattle.hack_rules.specs.Meanings.{Branches}
 use Rattle.hack_rules.specs.Variables.{Variables, type_in, with_variable}
+use Rattle.hack_rules.specs.Refining.{where_is, where_is_not}
 use Rattle.hack_walk.specs.Checks.{VariablesIn}
+use Rattle.hack_walk.specs.declared.branches.Outcome.{Outcome}
+use Rattle.hack_walk.specs.declared.branches.Outcome.TheVariants as outcome
 
 -- with one more variable, if there is one
 abbrev pub with_joined : Variables → Option (ℕ × HackType) → Variables
@@ -88,3 +91,8 @@ pub record TestIn (symbols : Symbols) (scope : Scope) (here : Variables) (T : Ha
 pub record OwnIn (symbols : Symbols) (scope : Scope) (here : Variables) (T was : HackType) : Type 0 where
   pub test : TestIn symbols scope here T
   pub own : TypeIn symbols was
+
+-- what a type becomes by a test with this outcome
+abbrev pub where_by : Outcome → Map → Scope → HackType → HackType → HackType
+where_by outcome.Holds map scope tested own = where_is map scope tested own
+where_by outcome.Fails map scope tested own = where_is_not map scope tested own

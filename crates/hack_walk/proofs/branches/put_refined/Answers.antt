@@ -5,7 +5,7 @@ use Rattle.hack_decls.specs.AskLaws.{failed, said, without_memory}
 use Rattle.hack_walk.specs.Checks.{VariablesIn}
 use Rattle.hack_walk.specs.inside.Calls.{put_at}
 use Rattle.hack_walk.proofs.Subjects.{in_put_at}
-use Rattle.hack_walk.proofs.branches.put_not.Goals as goal
+use Rattle.hack_walk.proofs.branches.put_refined.Goals as goal
 
 pub returns : goal.returns
 returns g c =
