@@ -19,7 +19,8 @@ pub fn closed<T: Drop>(cursor: &mut Cursor<'_>, mark: Mark, read: T) -> Result<T
 
 /// What was read, beside what was read behind it; an error says why there is nothing behind it.
 pub fn beside<T: Drop, U>(read: T, behind: Result<U, ParseStop>) -> Result<(T, U), ParseStop>
-    ensures { MatchResult result (λ both. (both.0 ≡ read) × (behind ≡ Ok both.1)) (λ stop. behind ≡ Err stop) }
+    ensures { MatchResult result (λ both. (both.0 ≡ read) × (behind ≡ Ok both.1))
+        (λ stop. behind ≡ Err stop) }
 {
     match behind {
         Ok(behind) => Ok((read, behind)),
