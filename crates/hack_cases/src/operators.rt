@@ -70,7 +70,7 @@ fn type_of<'a>(variables: &'a Variables, operand: &Expr, other: &'a HackType) ->
 }
 
 // The operator that an expression is, where it has a table.
-fn operated(expr: &Expr) -> Option<Operated<'_>> {
+fn operator_type(expr: &Expr) -> Option<Operated<'_>> {
     match expr {
         Expr::Chain { first, others, .. } => chained(first.get(), others.as_slice()),
         Expr::Power { operands, .. } => power(operands.as_slice()),
@@ -113,7 +113,7 @@ fn given(
     expr: &Expr,
 ) -> Option<Result<HackType, DeclStop>> {
     let at = Place { line: 0, column: 0 };
-    let expr = operated(expr)?;
+    let expr = operator_type(expr)?;
     let other = HackType::Any;
     let given = match expr {
         Operated::Two(operation, left, right) => {
