@@ -1,5 +1,5 @@
 -- One level of a written type: what is mentioned, what it names, and its place.
-use Rattle.std.proofs.Common.{◌≡◌, ◌∙◌, Bool, false, List, [], ◌∷◌, ◌++◌, map, sym, ap, rules}
+use Rattle.std.proofs.Common.{◌≡◌, ◌∙◌, Bool, false, List, [], ◌++◌, map, sym, ap, rules}
 use Rattle.std.specs.List.{flat_map}
 use Rattle.hack_tree.specs.declared.written_type.ClassType.{ClassType}
 use Rattle.hack_tree.specs.declared.written_type.Container.{Container}
@@ -14,11 +14,10 @@ use Rattle.hack_types.specs.declared.hack_type.HackType.TheVariants as type
 use Rattle.hack_types.specs.declared.place.Place.{Place}
 use Rattle.hack_shallow.specs.Resolved.{container_type, last_fields, primitive_type}
 use Rattle.hack_shallow.specs.Scope.{Scope as Names, named}
-use Rattle.hack_decls.specs.Names.{class_symbol}
 use Rattle.hack_rules.specs.Walks.{pure}
 use Rattle.hack_rules.specs.WrittenTypes.{ClassMention, FieldMention, Mention, class_by, class_mention, container_checks, dict_checks, field_by, field_type, fields_checks, mention, mention_by, named_checks, this_checks}
 use Rattle.hack_written.specs.Within.{place_by, place_of}
-use Rattle.hack_written.specs.WrittenIn.{Mentioned, class_symbols_by, class_symbols_of, field_symbols_by, field_symbols_of, symbols_by, symbols_of}
+use Rattle.hack_written.specs.WrittenIn.{Mentioned, class_symbols_by, class_symbols_of, field_symbols_by, field_symbols_of, name_symbols, symbols_by, symbols_of}
 use Rattle.hack_written.specs.inside.Rows.{field_mention, field_mentions, mentions}
 
 module _ (names : Names) where
@@ -84,24 +83,24 @@ module _ (names : Names) where
   pub place : (ty : WrittenType) → (mention names ty).at ≡ place_of ty
   place ty = ap (λ t. (mention names t).at) (opened ty) ∙ at_layer (out-WrittenType ty)
 
--- what is named
-pub optional_symbols : (at : Place) (inner : WrittenType) → symbols_of (written.Optional at inner) ≡ symbols_of inner
-optional_symbols at inner = ap symbols_of (sym (written.rolls-Optional at inner)) ∙ fold-roll-WrittenType Mentioned Mentioned Mentioned symbols_by class_symbols_by field_symbols_by (WrittenType-F.Optional at inner)
+  -- what is named
+  pub optional_symbols : (at : Place) (inner : WrittenType) → symbols_of names (written.Optional at inner) ≡ symbols_of names inner
+  optional_symbols at inner = ap (symbols_of names) (sym (written.rolls-Optional at inner)) ∙ fold-roll-WrittenType Mentioned Mentioned Mentioned symbols_by (class_symbols_by names) field_symbols_by (WrittenType-F.Optional at inner)
 
-pub container_symbols : (at : Place) (c : Container) (element : WrittenType) → symbols_of (written.Container at c element) ≡ symbols_of element
-container_symbols at c element = ap symbols_of (sym (written.rolls-Container at c element)) ∙ fold-roll-WrittenType Mentioned Mentioned Mentioned symbols_by class_symbols_by field_symbols_by (WrittenType-F.Container at c element)
+  pub container_symbols : (at : Place) (c : Container) (element : WrittenType) → symbols_of names (written.Container at c element) ≡ symbols_of names element
+  container_symbols at c element = ap (symbols_of names) (sym (written.rolls-Container at c element)) ∙ fold-roll-WrittenType Mentioned Mentioned Mentioned symbols_by (class_symbols_by names) field_symbols_by (WrittenType-F.Container at c element)
 
-pub dict_symbols : (at : Place) (key value : WrittenType) → symbols_of (written.Dict at key value) ≡ symbols_of key ++ symbols_of value
-dict_symbols at key value = ap symbols_of (sym (written.rolls-Dict at key value)) ∙ fold-roll-WrittenType Mentioned Mentioned Mentioned symbols_by class_symbols_by field_symbols_by (WrittenType-F.Dict at key value)
+  pub dict_symbols : (at : Place) (key value : WrittenType) → symbols_of names (written.Dict at key value) ≡ symbols_of names key ++ symbols_of names value
+  dict_symbols at key value = ap (symbols_of names) (sym (written.rolls-Dict at key value)) ∙ fold-roll-WrittenType Mentioned Mentioned Mentioned symbols_by (class_symbols_by names) field_symbols_by (WrittenType-F.Dict at key value)
 
-pub shape_symbols : (at : Place) (fields : List FieldType) (rest : Bool) → symbols_of (written.Shape at fields rest) ≡ flat_map (λ symbols. symbols) (map field_symbols_of fields)
-shape_symbols at fields rest = ap symbols_of (sym (written.rolls-Shape at fields rest)) ∙ fold-roll-WrittenType Mentioned Mentioned Mentioned symbols_by class_symbols_by field_symbols_by (WrittenType-F.Shape at fields rest)
+  pub shape_symbols : (at : Place) (fields : List FieldType) (rest : Bool) → symbols_of names (written.Shape at fields rest) ≡ flat_map (λ symbols. symbols) (map (field_symbols_of names) fields)
+  shape_symbols at fields rest = ap (symbols_of names) (sym (written.rolls-Shape at fields rest)) ∙ fold-roll-WrittenType Mentioned Mentioned Mentioned symbols_by (class_symbols_by names) field_symbols_by (WrittenType-F.Shape at fields rest)
 
-pub class_type_symbols : (c : ClassType) → symbols_of (written.Class c) ≡ class_symbols_of c
-class_type_symbols c = ap symbols_of (sym (written.rolls-Class c)) ∙ fold-roll-WrittenType Mentioned Mentioned Mentioned symbols_by class_symbols_by field_symbols_by (WrittenType-F.Class c)
+  pub class_type_symbols : (c : ClassType) → symbols_of names (written.Class c) ≡ class_symbols_of names c
+  class_type_symbols c = ap (symbols_of names) (sym (written.rolls-Class c)) ∙ fold-roll-WrittenType Mentioned Mentioned Mentioned symbols_by (class_symbols_by names) field_symbols_by (WrittenType-F.Class c)
 
-pub class_symbols : (c : ClassType) → class_symbols_of c ≡ class_symbol c.name ∷ flat_map (λ symbols. symbols) (map symbols_of c.arguments)
-class_symbols c = fold_out-ClassType Mentioned Mentioned Mentioned symbols_by class_symbols_by field_symbols_by c
+  pub class_symbols : (c : ClassType) → class_symbols_of names c ≡ name_symbols names c.name ++ flat_map (λ symbols. symbols) (map (symbols_of names) c.arguments)
+  class_symbols c = fold_out-ClassType Mentioned Mentioned Mentioned symbols_by (class_symbols_by names) field_symbols_by c
 
-pub field_symbols : (f : FieldType) → field_symbols_of f ≡ symbols_of f.value
-field_symbols f = fold_out-FieldType Mentioned Mentioned Mentioned symbols_by class_symbols_by field_symbols_by f
+  pub field_symbols : (f : FieldType) → field_symbols_of names f ≡ symbols_of names f.value
+  field_symbols f = fold_out-FieldType Mentioned Mentioned Mentioned symbols_by (class_symbols_by names) field_symbols_by f

@@ -18,78 +18,83 @@ use Rattle.hack_types.specs.declared.hack_type.HackType.TheVariants as type
 use Rattle.hack_types.specs.declared.ids.SymbolId.{SymbolId}
 use Rattle.hack_types.specs.declared.place.Place.{Place}
 use Rattle.hack_shallow.specs.Resolved.{container_type, in_order, primitive_type}
+use Rattle.hack_shallow.specs.Scope.{Scope as Names}
 use Rattle.hack_decls.specs.DeclState.{Symbols}
 use Rattle.hack_decls.specs.NameLaws.{back, front}
-use Rattle.hack_decls.specs.Names.{TypeIn, class_symbol, symbols_by, symbols_in}
+use Rattle.hack_decls.specs.Names.{TypeIn, symbols_by, symbols_in}
 use Rattle.hack_sub.specs.NamesOf.{alone, field_symbols, joined}
-use Rattle.hack_written.specs.WrittenIn.{ClassIn, FieldIn, WrittenIn, field_symbols_of, symbols_of}
+use Rattle.hack_written.specs.WrittenIn.{ClassIn, FieldIn, NameIn, WrittenIn, field_symbols_of, name_symbols, symbols_of}
 use Rattle.hack_written.proofs.Mentions as one
 
-module _ (symbols : Symbols) where
+-- ---- written types
+
+module _ (names : Names) (symbols : Symbols) where
   abbrev In : SymbolId → Type 0
   In s = IsTrue (symbols s)
 
-  -- ---- written types
-
-  pub in_optional : (at : Place) (inner : WrittenType) → WrittenIn symbols (written.Optional at inner) → WrittenIn symbols inner
+  pub in_optional : (at : Place) (inner : WrittenType) → WrittenIn names symbols (written.Optional at inner) → WrittenIn names symbols inner
   unfolding WrittenIn
-  in_optional at inner all = subst (λ (s : List SymbolId). All In s) (one.optional_symbols at inner) all
+  in_optional at inner all = subst (λ (s : List SymbolId). All In s) (one.optional_symbols names at inner) all
 
-  pub in_container : (at : Place) (c : Container) (element : WrittenType) → WrittenIn symbols (written.Container at c element) → WrittenIn symbols element
+  pub in_container : (at : Place) (c : Container) (element : WrittenType) → WrittenIn names symbols (written.Container at c element) → WrittenIn names symbols element
   unfolding WrittenIn
-  in_container at c element all = subst (λ (s : List SymbolId). All In s) (one.container_symbols at c element) all
+  in_container at c element all = subst (λ (s : List SymbolId). All In s) (one.container_symbols names at c element) all
 
-  pub in_key : (at : Place) (key value : WrittenType) → WrittenIn symbols (written.Dict at key value) → WrittenIn symbols key
+  pub in_key : (at : Place) (key value : WrittenType) → WrittenIn names symbols (written.Dict at key value) → WrittenIn names symbols key
   unfolding WrittenIn
-  in_key at key value all = front In (symbols_of key) (symbols_of value) (subst (λ (s : List SymbolId). All In s) (one.dict_symbols at key value) all)
+  in_key at key value all = front In (symbols_of names key) (symbols_of names value) (subst (λ (s : List SymbolId). All In s) (one.dict_symbols names at key value) all)
 
-  pub in_value : (at : Place) (key value : WrittenType) → WrittenIn symbols (written.Dict at key value) → WrittenIn symbols value
+  pub in_value : (at : Place) (key value : WrittenType) → WrittenIn names symbols (written.Dict at key value) → WrittenIn names symbols value
   unfolding WrittenIn
-  in_value at key value all = back In (symbols_of key) (symbols_of value) (subst (λ (s : List SymbolId). All In s) (one.dict_symbols at key value) all)
+  in_value at key value all = back In (symbols_of names key) (symbols_of names value) (subst (λ (s : List SymbolId). All In s) (one.dict_symbols names at key value) all)
 
-  each_field : (fields : List FieldType) → All In (flat_map (λ (s : List SymbolId). s) (map field_symbols_of fields)) → All (FieldIn symbols) fields
+  each_field : (fields : List FieldType) → All In (flat_map (λ (s : List SymbolId). s) (map (field_symbols_of names) fields)) → All (FieldIn names symbols) fields
   unfolding FieldIn
   each_field [] all = λ k d lt. absurd (omega (arith, lt))
   each_field (f ∷ fs) all =
-      let rest = flat_map (λ (s : List SymbolId). s) (map field_symbols_of fs) in
-      All-cons (FieldIn symbols) f fs (front In (field_symbols_of f) rest all) (each_field fs (back In (field_symbols_of f) rest all))
+      let rest = flat_map (λ (s : List SymbolId). s) (map (field_symbols_of names) fs) in
+      All-cons (FieldIn names symbols) f fs (front In (field_symbols_of names f) rest all) (each_field fs (back In (field_symbols_of names f) rest all))
 
-  pub in_shape : (at : Place) (fields : List FieldType) (rest : Bool) → WrittenIn symbols (written.Shape at fields rest) → All (FieldIn symbols) fields
+  pub in_shape : (at : Place) (fields : List FieldType) (rest : Bool) → WrittenIn names symbols (written.Shape at fields rest) → All (FieldIn names symbols) fields
   unfolding WrittenIn
-  in_shape at fields rest all = each_field fields (subst (λ (s : List SymbolId). All In s) (one.shape_symbols at fields rest) all)
+  in_shape at fields rest all = each_field fields (subst (λ (s : List SymbolId). All In s) (one.shape_symbols names at fields rest) all)
 
-  pub in_field : (f : FieldType) → FieldIn symbols f → WrittenIn symbols f.value
+  pub in_field : (f : FieldType) → FieldIn names symbols f → WrittenIn names symbols f.value
   unfolding WrittenIn FieldIn
-  in_field f all = subst (λ (s : List SymbolId). All In s) (one.field_symbols f) all
+  in_field f all = subst (λ (s : List SymbolId). All In s) (one.field_symbols names f) all
 
-  pub in_class_type : (c : ClassType) → WrittenIn symbols (written.Class c) → ClassIn symbols c
+  pub in_class_type : (c : ClassType) → WrittenIn names symbols (written.Class c) → ClassIn names symbols c
   unfolding WrittenIn ClassIn
-  in_class_type c all = subst (λ (s : List SymbolId). All In s) (one.class_type_symbols c) all
+  in_class_type c all = subst (λ (s : List SymbolId). All In s) (one.class_type_symbols names c) all
 
-  each : (types : List WrittenType) → All In (flat_map (λ (s : List SymbolId). s) (map symbols_of types)) → All (WrittenIn symbols) types
+  each : (types : List WrittenType) → All In (flat_map (λ (s : List SymbolId). s) (map (symbols_of names) types)) → All (WrittenIn names symbols) types
   unfolding WrittenIn
   each [] all = λ k d lt. absurd (omega (arith, lt))
   each (t ∷ ts) all =
-      let rest = flat_map (λ (s : List SymbolId). s) (map symbols_of ts) in
-      All-cons (WrittenIn symbols) t ts (front In (symbols_of t) rest all) (each ts (back In (symbols_of t) rest all))
+      let rest = flat_map (λ (s : List SymbolId). s) (map (symbols_of names) ts) in
+      All-cons (WrittenIn names symbols) t ts (front In (symbols_of names t) rest all) (each ts (back In (symbols_of names t) rest all))
 
-  pub in_name : (c : ClassType) → ClassIn symbols c → IsTrue (symbols (class_symbol c.name))
+  pub in_name : (c : ClassType) → ClassIn names symbols c → NameIn names symbols c.name
   unfolding ClassIn
-  in_name c all = All-head In (class_symbol c.name) (flat_map (λ (s : List SymbolId). s) (map symbols_of c.arguments)) (subst (λ (s : List SymbolId). All In s) (one.class_symbols c) all)
+  in_name c all = front In (name_symbols names c.name) (flat_map (λ (s : List SymbolId). s) (map (symbols_of names) c.arguments)) (subst (λ (s : List SymbolId). All In s) (one.class_symbols names c) all)
 
-  pub in_arguments : (c : ClassType) → ClassIn symbols c → All (WrittenIn symbols) c.arguments
+  pub in_arguments : (c : ClassType) → ClassIn names symbols c → All (WrittenIn names symbols) c.arguments
   unfolding ClassIn
-  in_arguments c all = each c.arguments (All-tail In (class_symbol c.name) (flat_map (λ (s : List SymbolId). s) (map symbols_of c.arguments)) (subst (λ (s : List SymbolId). All In s) (one.class_symbols c) all))
+  in_arguments c all = each c.arguments (back In (name_symbols names c.name) (flat_map (λ (s : List SymbolId). s) (map (symbols_of names) c.arguments)) (subst (λ (s : List SymbolId). All In s) (one.class_symbols names c) all))
 
-  -- ---- types
+-- ---- types
+
+module _ (symbols : Symbols) where
+  abbrev Among : SymbolId → Type 0
+  Among s = IsTrue (symbols s)
 
   pub of_vector : (item : HackType) → TypeIn symbols item → TypeIn symbols (type.Vector item)
   unfolding TypeIn symbols_in
-  of_vector item here = subst (λ (s : List SymbolId). All In s) (sym (ap symbols_in (sym (type.rolls-Vector item)) ∙ fold-roll-HackType (List SymbolId) symbols_by (HackType-F.Vector item))) here
+  of_vector item here = subst (λ (s : List SymbolId). All Among s) (sym (ap symbols_in (sym (type.rolls-Vector item)) ∙ fold-roll-HackType (List SymbolId) symbols_by (HackType-F.Vector item))) here
 
   pub of_keyset : (item : HackType) → TypeIn symbols item → TypeIn symbols (type.Keyset item)
   unfolding TypeIn symbols_in
-  of_keyset item here = subst (λ (s : List SymbolId). All In s) (sym (ap symbols_in (sym (type.rolls-Keyset item)) ∙ fold-roll-HackType (List SymbolId) symbols_by (HackType-F.Keyset item))) here
+  of_keyset item here = subst (λ (s : List SymbolId). All Among s) (sym (ap symbols_in (sym (type.rolls-Keyset item)) ∙ fold-roll-HackType (List SymbolId) symbols_by (HackType-F.Keyset item))) here
 
   pub of_container : (c : Container) (item : HackType) → TypeIn symbols item → TypeIn symbols (container_type c item)
   of_container container.Vec item here = of_vector item here
@@ -97,14 +102,14 @@ module _ (symbols : Symbols) where
 
   pub of_dict : (key value : HackType) → TypeIn symbols key → TypeIn symbols value → TypeIn symbols (type.Dict key value)
   unfolding TypeIn symbols_in
-  of_dict key value k v = subst (λ (s : List SymbolId). All In s)
+  of_dict key value k v = subst (λ (s : List SymbolId). All Among s)
       (sym (ap symbols_in (sym (type.rolls-Dict key value)) ∙ fold-roll-HackType (List SymbolId) symbols_by (HackType-F.Dict key value)))
       (joined symbols (symbols_in key) (symbols_in value) k v)
 
   abbrev pub EntriesIn : List (ℕ × (Bool × HackType)) → Type 0
   EntriesIn entries = All (λ (v : Bool × HackType). TypeIn symbols v.1) (values_of entries)
 
-  gathered : (entries : List (ℕ × (Bool × HackType))) → EntriesIn entries → All In (field_symbols symbols (in_order entries))
+  gathered : (entries : List (ℕ × (Bool × HackType))) → EntriesIn entries → All Among (field_symbols symbols (in_order entries))
   unfolding TypeIn
   gathered [] all = λ k d lt. absurd (omega (arith, lt))
   gathered (e ∷ es) all =
@@ -113,7 +118,7 @@ module _ (symbols : Symbols) where
 
   pub of_shape : (entries : List (ℕ × (Bool × HackType))) (rest : Bool) → EntriesIn entries → TypeIn symbols (type.Shape (in_order entries) rest)
   unfolding TypeIn symbols_in
-  of_shape entries rest all = subst (λ (s : List SymbolId). All In s)
+  of_shape entries rest all = subst (λ (s : List SymbolId). All Among s)
       (sym (ap symbols_in (sym (type.rolls-Shape (in_order entries) rest)) ∙ fold-roll-HackType (List SymbolId) symbols_by (HackType-F.Shape (in_order entries) rest)))
       (gathered entries all)
 

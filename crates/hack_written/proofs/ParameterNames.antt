@@ -1,12 +1,14 @@
 -- Names that are type parameters, and names that aren't.
-use Rattle.std.proofs.Common.{◌≡◌, ◌||◌, ℕ, Option, Some, None, List, refl, sym, ap, subst, is_some, if◌then◌else◌}
+use Rattle.std.proofs.Common.{◌≡◌, ◌||◌, ℕ, Option, Some, None, List, [], ◌∷◌, All, IsTrue, refl, sym, ap, subst, is_some, if◌then◌else◌}
+use Rattle.std.proofs.lemmas.List.Elements.{All-head}
 use Rattle.hack_types.specs.declared.hack_type.HackType.{HackType}
 use Rattle.hack_types.specs.declared.hack_type.HackType.TheVariants as type
 use Rattle.hack_shallow.specs.Scope.{Scope as Names, first_at, named, named_by}
 use Rattle.hack_decls.specs.DeclState.{Map, Symbols}
-use Rattle.hack_decls.specs.Names.{TypeIn}
+use Rattle.hack_decls.specs.Names.{TypeIn, class_symbol}
 use Rattle.hack_rules.specs.Walks.{Setting, State, Walk, ◌>>=◌, pure}
 use Rattle.hack_rules.specs.WrittenTypes.{is_parameter}
+use Rattle.hack_written.specs.WrittenIn.{NameIn}
 use Rattle.hack_written.specs.inside.Rows.{parameter_by, parameter_of, told}
 use Rattle.hack_written.proofs.Named.{of_class_param, of_fun_param}
 
@@ -42,3 +44,13 @@ in_by symbols name p None None is = let no : ⊥ = cc in absurd no
 
 pub in_parameter : (symbols : Symbols) (names : Names) (name : ℕ) (p : HackType) → Some p ≡ parameter_of names name → TypeIn symbols p
 in_parameter symbols names name p is = in_by symbols name p (first_at name names.function) (first_at name names.class) is
+
+-- what is declared under a name that is no parameter
+declared_by : (symbols : Symbols) (name : ℕ) (f c : Option ℕ) → None ≡ parameter_by name f c
+    → All (λ s. IsTrue (symbols s)) (if is_some f || is_some c then [] else class_symbol name ∷ []) → IsTrue (symbols (class_symbol name))
+declared_by symbols name (Some i) c is all = let no : ⊥ = cc in absurd no
+declared_by symbols name None (Some i) is all = let no : ⊥ = cc in absurd no
+declared_by symbols name None None is all = All-head (λ s. IsTrue (symbols s)) (class_symbol name) [] all
+
+pub in_declared : (symbols : Symbols) (names : Names) (name : ℕ) → None ≡ parameter_of names name → NameIn names symbols name → IsTrue (symbols (class_symbol name))
+in_declared symbols names name is all = declared_by symbols name (first_at name names.function) (first_at name names.class) is all

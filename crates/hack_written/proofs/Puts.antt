@@ -1,5 +1,5 @@
 -- Types that are put in, and types of more than 256 nodes.
-use Rattle.std.proofs.Common.{◌≡◌, ◌<◌, ◌≤◌, ◌∙◌, ◌&&◌, ◌⊎◌, ℕ, zero, suc, Bool, true, false, cond, nat_le, Some, None, List, [], ◌∷◌, All, Decides, length, map, get_or, min, inl, inr, refl, sym, ap, subst, arith}
+use Rattle.std.proofs.Common.{◌≡◌, ◌<◌, ◌≤◌, ◌∙◌, ◌&&◌, ◌⊎◌, ℕ, zero, suc, Bool, true, false, cond, nat_le, Some, None, List, [], ◌∷◌, All, Decides, length, map, get_or, min, inl, inr, refl, sym, ap, arith}
 use Rattle.std.proofs.lemmas.List.Elements.{All-cons, All-head, All-tail}
 use Rattle.std.proofs.lemmas.Bool.{cases_lt, le-leb, leb-true}
 use borrow.Author.Tests.{lt-leb}

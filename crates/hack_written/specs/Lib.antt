@@ -2,4 +2,5 @@ pub mod NamesFilled
 pub mod Reported
 pub mod Within
 pub mod WrittenIn
+pub mod WrittenLaws
 pub mod inside

@@ -1,10 +1,10 @@
 -- What a type names once types stand for its parameters and for `this`, is named by it or by one of these.
-use Rattle.std.proofs.Common.{◌≡◌, ◌∙◌, ◌++◌, ℕ, zero, suc, Bool, true, false, Option, Some, None, List, [], ◌∷◌, map, All, IsTrue, IfSome, cond, nat_le, sym, ap, subst, arith, get_or}
+use Rattle.std.proofs.Common.{◌≡◌, ◌++◌, ℕ, zero, suc, Bool, true, false, Option, Some, None, List, [], ◌∷◌, map, All, IsTrue, IfSome, cond, nat_le, sym, subst, arith, get_or}
 use Rattle.std.proofs.lemmas.List.Elements.{All-cons, All-head, All-tail}
 use Rattle.hack_types.specs.Substituted.{most_nodes}
 use Rattle.hack_types.specs.TypeNodes.{nodes}
 use Rattle.hack_types.specs.declared.fields.Field.{Field}
-use Rattle.hack_types.specs.declared.hack_type.HackType.{HackType, out-HackType, roll-HackType}
+use Rattle.hack_types.specs.declared.hack_type.HackType.{HackType, roll-HackType}
 use Rattle.hack_types.specs.declared.hack_type.HackType.TheOpen.{HackType-F}
 use Rattle.hack_types.specs.declared.hack_type.HackType.TheFolds.{fold-roll-HackType, ind-HackType, map-HackType}
 use Rattle.hack_types.specs.declared.hack_type.HackType.TheVariants as type

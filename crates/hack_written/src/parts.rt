@@ -7,7 +7,7 @@ ghost use Rattle.hack_walk.specs.Checks.{Walks};
 ghost use Rattle.hack_shallow.specs.Resolved.{in_order};
 ghost use Rattle.hack_sub.specs.IsBelow.{is_small};
 ghost use Rattle.hack_written.specs.Within.{place_of};
-ghost use Rattle.hack_written.specs.WrittenIn.{ClassIn, FieldIn, WrittenIn};
+ghost use Rattle.hack_written.specs.WrittenIn.{ClassIn, FieldIn, NameIn, WrittenIn};
 ghost use Rattle.hack_written.specs.inside.Rows as row;
 ghost use Rattle.hack_written.specs.inside.Rows.{IsPut, names_in, setting_in};
 
@@ -52,7 +52,7 @@ pub(crate) fn checked<D: Decls>(
 ) -> Result<HackType, DeclStop>
     ensures { Walks (row.checked (names_in around.now) around.now.bounds written.now)
         (setting_in around.now) (D.state decls.old) state.old result (D.state decls.new) state.new
-        (λ symbols. WrittenIn symbols written.now) TypeIn }
+        (λ symbols. WrittenIn (names_in around.now) symbols written.now) TypeIn }
 {
     match written {
         WrittenType::Optional { inner, .. } => optional(around, decls, state, inner.get()),
@@ -93,7 +93,7 @@ fn optional<D: Decls>(
 ) -> Result<HackType, DeclStop>
     ensures { Walks (row.optional (names_in around.now) around.now.bounds inner.now)
         (setting_in around.now) (D.state decls.old) state.old result (D.state decls.new) state.new
-        (λ symbols. WrittenIn symbols inner.now) TypeIn }
+        (λ symbols. WrittenIn (names_in around.now) symbols inner.now) TypeIn }
 {
     let ty = checked(around, decls, state, inner)?;
     Ok(into_option(around.alloc, ty)?)
@@ -134,7 +134,7 @@ fn contained<D: Decls>(
 ) -> Result<HackType, DeclStop>
     ensures { Walks (row.contained (names_in around.now) around.now.bounds element.now container)
         (setting_in around.now) (D.state decls.old) state.old result (D.state decls.new) state.new
-        (λ symbols. WrittenIn symbols element.now) TypeIn }
+        (λ symbols. WrittenIn (names_in around.now) symbols element.now) TypeIn }
 {
     let ty = checked(around, decls, state, element)?;
     expect_key_of(around, decls, state, place_of(element), &ty, container)?;
@@ -208,7 +208,8 @@ fn dict<D: Decls>(
 ) -> Result<HackType, DeclStop>
     ensures { Walks (row.dict (names_in around.now) around.now.bounds value.now key_at key)
         (setting_in around.now) (D.state decls.old) state.old result (D.state decls.new) state.new
-        (λ symbols. WrittenIn symbols value.now × TypeIn symbols key) TypeIn }
+        (λ symbols. WrittenIn (names_in around.now) symbols value.now × TypeIn symbols key)
+        TypeIn }
 {
     let value = checked(around, decls, state, value)?;
     expect_key_type(around, decls, state, key_at, &key)?;
@@ -232,7 +233,7 @@ fn shape<D: Decls>(
 ) -> Result<HackType, DeclStop>
     ensures { Walks (row.shape (names_in around.now) around.now.bounds fields.now rest)
         (setting_in around.now) (D.state decls.old) state.old result (D.state decls.new) state.new
-        (λ symbols. All (FieldIn symbols) fields.now) TypeIn }
+        (λ symbols. All (FieldIn (names_in around.now) symbols) fields.now) TypeIn }
 {
     let mut by_key = BTreeMap::new(around.alloc);
     for field in fields {
@@ -253,7 +254,7 @@ fn field_type<D: Decls>(
 ) -> Result<HackType, DeclStop>
     ensures { Walks (row.field_type (names_in around.now) around.now.bounds field.now is_given)
         (setting_in around.now) (D.state decls.old) state.old result (D.state decls.new) state.new
-        (λ symbols. FieldIn symbols field.now) TypeIn }
+        (λ symbols. FieldIn (names_in around.now) symbols field.now) TypeIn }
 {
     expect_new(around, decls, state, field.key_at, field.key, is_given)?;
     checked(around, decls, state, &field.value)
@@ -314,7 +315,7 @@ pub(crate) fn checked_class<D: Decls>(
 ) -> Result<HackType, DeclStop>
     ensures { Walks (row.checked_class (names_in around.now) around.now.bounds class.now traits)
         (setting_in around.now) (D.state decls.old) state.old result (D.state decls.new) state.new
-        (λ symbols. ClassIn symbols class.now) TypeIn }
+        (λ symbols. ClassIn (names_in around.now) symbols class.now) TypeIn }
 {
     let types = arguments(around, decls, state, class.arguments.as_slice())?;
     named(around, decls, state, class, traits, types)
@@ -330,7 +331,8 @@ fn arguments<D: Decls>(
 ) -> Result<Items<HackType>, DeclStop>
     ensures { Walks (row.arguments (names_in around.now) around.now.bounds written.now)
         (setting_in around.now) (D.state decls.old) state.old result (D.state decls.new) state.new
-        (λ symbols. All (WrittenIn symbols) written.now) (λ symbols. All (TypeIn symbols)) }
+        (λ symbols. All (WrittenIn (names_in around.now) symbols) written.now)
+        (λ symbols. All (TypeIn symbols)) }
 {
     let mut types = Items::new(around.alloc);
     for argument in written {
@@ -358,7 +360,7 @@ fn named<D: Decls>(
     requires { types ≡ row.types_in (names_in around.now) class.now.arguments }
     ensures { Walks (row.named (names_in around.now) around.now.bounds class.now traits)
         (setting_in around.now) (D.state decls.old) state.old result (D.state decls.new) state.new
-        (λ symbols. IsTrue (symbols (class_symbol class.now.name))
+        (λ symbols. NameIn (names_in around.now) symbols class.now.name
         × All (TypeIn symbols) types) TypeIn }
 {
     match parameter(around.parameters, class.name) {

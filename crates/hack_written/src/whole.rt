@@ -34,7 +34,7 @@ pub fn written<D: Decls>(
 ) -> Result<HackType, DeclStop>
     ensures { Walks (written ty.now)
         (setting_of setting.now) (D.state decls.old) state.old result (D.state decls.new) state.new
-        (λ symbols. WrittenIn symbols ty.now) TypeIn }
+        (λ symbols. WrittenIn (names_of (setting_of setting.now).scope) symbols ty.now) TypeIn }
 {
     let class = class_names(alloc, setting.scope)?;
     let function = names_of(alloc, setting.scope.fun_params.as_slice())?;
@@ -56,7 +56,7 @@ pub fn written_class<D: Decls>(
 ) -> Result<HackType, DeclStop>
     ensures { Walks (written_class class.now)
         (setting_of setting.now) (D.state decls.old) state.old result (D.state decls.new) state.new
-        (λ symbols. ClassIn symbols class.now) TypeIn }
+        (λ symbols. ClassIn (names_of (setting_of setting.now).scope) symbols class.now) TypeIn }
 {
     named_class(alloc, setting, decls, state, class, false)
 }
@@ -71,7 +71,7 @@ pub fn used_trait<D: Decls>(
 ) -> Result<HackType, DeclStop>
     ensures { Walks (used_trait class.now)
         (setting_of setting.now) (D.state decls.old) state.old result (D.state decls.new) state.new
-        (λ symbols. ClassIn symbols class.now) TypeIn }
+        (λ symbols. ClassIn (names_of (setting_of setting.now).scope) symbols class.now) TypeIn }
 {
     named_class(alloc, setting, decls, state, class, true)
 }
@@ -88,7 +88,7 @@ fn named_class<D: Decls>(
     ensures { Walks
         (whole_class traits (class_mention (names_of (setting_of setting.now).scope) class.now))
         (setting_of setting.now) (D.state decls.old) state.old result (D.state decls.new) state.new
-        (λ symbols. ClassIn symbols class.now) TypeIn }
+        (λ symbols. ClassIn (names_of (setting_of setting.now).scope) symbols class.now) TypeIn }
 {
     let outer = class_names(alloc, setting.scope)?;
     let function = names_of(alloc, setting.scope.fun_params.as_slice())?;
@@ -110,7 +110,7 @@ fn whole_type<D: Decls>(
 ) -> Result<HackType, DeclStop>
     ensures { Walks (whole_mention (mention (scope_of names.now) ty.now))
         (setting_of setting.now) (D.state decls.old) state.old result (D.state decls.new) state.new
-        (λ symbols. WrittenIn symbols ty.now) TypeIn }
+        (λ symbols. WrittenIn (scope_of names.now) symbols ty.now) TypeIn }
 {
     let bounds = is_small_type(alloc, names, ty)?;
     let around = Around {
@@ -135,7 +135,7 @@ fn whole_name<D: Decls>(
 ) -> Result<HackType, DeclStop>
     ensures { Walks (whole_class traits (class_mention (scope_of names.now) class.now))
         (setting_of setting.now) (D.state decls.old) state.old result (D.state decls.new) state.new
-        (λ symbols. ClassIn symbols class.now) TypeIn }
+        (λ symbols. ClassIn (scope_of names.now) symbols class.now) TypeIn }
 {
     let bounds = is_small_class(alloc, names, class)?;
     let around = Around {

@@ -75,7 +75,7 @@ field_type-returns g t c =
     let m = mention names field.value in let mid = c.expect_new.new.state in let setting = setting_in around in
     walks_then _ c.checked.result c.in_ok-expect_new.ensures c.checked.ensures
     (λ map is. ap (λ (r : Unit {0} × State). told (m.checks around.bounds) m.ty setting map r.1) is)
-    (λ symbols n. tt) (λ symbols n w. named.in_field symbols field n) (λ symbols b n w v. v)
+    (λ symbols n. tt) (λ symbols n w. named.in_field names symbols field n) (λ symbols b n w v. v)
 
 -- ---- names
 
@@ -87,8 +87,8 @@ checked_class-returns g t c =
     walks_then _ c.named.result c.in_ok-types.ensures c.named.ensures
     (λ map is. seen.class_is names around.bounds class c.args.traits c.in_ok-types.types setting map s mid
     (subst (λ (ws : List WrittenType). row.arguments names around.bounds ws setting map s ≡ (c.in_ok-types.types, mid)) own is))
-    (λ symbols n. subst (λ (ws : List WrittenType). All (WrittenIn symbols) ws) (sym own) (named.in_arguments symbols class n))
-    (λ symbols n w. (named.in_name symbols class n, w)) (λ symbols b n w v. v)
+    (λ symbols n. subst (λ (ws : List WrittenType). All (WrittenIn names symbols) ws) (sym own) (named.in_arguments names symbols class n))
+    (λ symbols n w. (named.in_name names symbols class n, w)) (λ symbols b n w v. v)
 
 pub checked_class-named-requires : goal.checked_class-named-requires
 checked_class-named-requires g t c =
@@ -113,12 +113,12 @@ arguments-loop-argument-preserved g t c =
     let m = mention names w in let types = c.loop-argument.types in let ty = c.in_ok-ty.ty in
     let mid = c.loop-argument.state in let last = c.checked.new.state in
     walks_then _ (Ok _) c.loop-argument.invariant
-    (walks_on {Names = λ symbols. All (TypeIn symbols) types × WrittenIn symbols w} {Gives = λ symbols. All (TypeIn symbols)} (told (m.checks around.bounds) (types ++ m.ty ∷ [])) _ last c.in_ok-ty.ensures
+    (walks_on {Names = λ symbols. All (TypeIn symbols) types × WrittenIn names symbols w} {Gives = λ symbols. All (TypeIn symbols)} (told (m.checks around.bounds) (types ++ m.ty ∷ [])) _ last c.in_ok-ty.ensures
     (λ map is. told_made (m.checks around.bounds) m.ty ty setting map mid last (λ (t : HackType). types ++ t ∷ []) _ is c.in_ok-push.ensures) refl
     (λ symbols n. n.1) (λ symbols n v. subst (λ (ts : List HackType). All (TypeIn symbols) ts) (sym c.in_ok-push.ensures) (All-push (TypeIn symbols) types ty n.0 v)))
     (λ map is. seen.one_more names around.bounds ws i w types setting map c.args.state.now mid lt c.argument-item.is is)
     (λ symbols n. n)
-    (λ symbols n all. (all, subst (WrittenIn symbols) (sym c.argument-item.is) (n i w lt)))
+    (λ symbols n all. (all, subst (WrittenIn names symbols) (sym c.argument-item.is) (n i w lt)))
     (λ symbols b n all v. v)
 
 pub arguments-returns : goal.arguments-returns
@@ -159,7 +159,7 @@ shape-loop-field-preserved g t c =
           (λ map is. seen.field_is names around.bounds f keys given ty setting map mid last told_given is) refl
           (λ symbols n. n) (λ symbols n w. w))
           (λ map is. seen.fields_next names around.bounds fields i f setting map c.args.state.now mid lt at is)
-          (λ symbols n. n) (λ symbols n w. subst (FieldIn symbols) (sym at) (n i f lt))
+          (λ symbols n. n) (λ symbols n w. subst (FieldIn names symbols) (sym at) (n i f lt))
           (λ symbols b n w v. subst (named.EntriesIn symbols) (sym c.in_ok-put.ensures.entries)
           (All-values-insert_entry nat_cmp f.key (f.optional, ty) (λ (x : Bool × HackType). TypeIn symbols x.1) before.entries w v));
       entries = seen.entries_next names around.bounds fields i f before.entries after.entries ty lt at is_type c.loop-field.invariant.entries c.in_ok-put.ensures.entries;
@@ -193,7 +193,7 @@ checked-returns-in-Optional g t c =
     (λ map. ap (λ (x : WrittenType). row.checked names around.bounds x setting map c.args.state.now) c.in-Optional.is
     ∙ ap (λ (m : Mention). told (m.checks around.bounds) m.ty setting map c.args.state.now) (one.optional names _ inner)
     ∙ ap (λ (x : WrittenType). row.optional names around.bounds x setting map c.args.state.now) (sym own))
-    (λ symbols n. subst (WrittenIn symbols) (sym own) (named.in_optional symbols _ inner (subst (WrittenIn symbols) c.in-Optional.is n))) (λ symbols a n v. v)
+    (λ symbols n. subst (WrittenIn names symbols) (sym own) (named.in_optional names symbols _ inner (subst (WrittenIn names symbols) c.in-Optional.is n))) (λ symbols a n v. v)
 
 -- ---- refusals
 
@@ -224,15 +224,17 @@ dict-returns-in_err-dict_type g t c =
 
 pub shape-returns-in_err-ty : goal.shape-returns-in_err-ty
 shape-returns-in_err-ty g t c =
+    let names = names_in c.args.around.now in
     let i = c.loop-field.field-index in let f = c.field-item.result in
     let p = err_from_is_err_and c.from_residual.result c.from_residual.ensures.1 in
-    rw (p.1, p.2) (broken _ _ c.loop-field.invariant.walked c.in_err-ty.ensures (λ symbols n. n) (λ symbols n w. subst (FieldIn symbols) (sym c.field-item.is) (n i f c.loop-field-test.true)))
+    rw (p.1, p.2) (broken _ _ c.loop-field.invariant.walked c.in_err-ty.ensures (λ symbols n. n) (λ symbols n w. subst (FieldIn names symbols) (sym c.field-item.is) (n i f c.loop-field-test.true)))
 
 pub shape-returns-in_err-put : goal.shape-returns-in_err-put
 shape-returns-in_err-put g t c =
+    let names = names_in c.args.around.now in
     let i = c.loop-field.field-index in let f = c.field-item.result in
     let p = err_from_is_err_and c.from_residual-in_err-put.result c.from_residual-in_err-put.ensures.1 in
-    rw (p.1, p.2) (broken_out _ _ c.loop-field.invariant.walked c.in_ok-ty.ensures (λ symbols n. n) (λ symbols n w. subst (FieldIn symbols) (sym c.field-item.is) (n i f c.loop-field-test.true)))
+    rw (p.1, p.2) (broken_out _ _ c.loop-field.invariant.walked c.in_ok-ty.ensures (λ symbols n. n) (λ symbols n w. subst (FieldIn names symbols) (sym c.field-item.is) (n i f c.loop-field-test.true)))
 
 pub shape-returns-in_err-shape_type : goal.shape-returns-in_err-shape_type
 shape-returns-in_err-shape_type g t c =
@@ -241,15 +243,17 @@ shape-returns-in_err-shape_type g t c =
 
 pub arguments-returns-in_err-ty : goal.arguments-returns-in_err-ty
 arguments-returns-in_err-ty g t c =
+    let names = names_in c.args.around.now in
     let i = c.loop-argument.argument-index in let w = c.argument-item.result in
     let p = err_from_is_err_and c.from_residual.result c.from_residual.ensures.1 in
-    rw (p.1, p.2) (broken _ _ c.loop-argument.invariant c.in_err-ty.ensures (λ symbols n. n) (λ symbols n v. subst (WrittenIn symbols) (sym c.argument-item.is) (n i w c.loop-argument-test.true)))
+    rw (p.1, p.2) (broken _ _ c.loop-argument.invariant c.in_err-ty.ensures (λ symbols n. n) (λ symbols n v. subst (WrittenIn names symbols) (sym c.argument-item.is) (n i w c.loop-argument-test.true)))
 
 pub arguments-returns-in_err-push : goal.arguments-returns-in_err-push
 arguments-returns-in_err-push g t c =
+    let names = names_in c.args.around.now in
     let i = c.loop-argument.argument-index in let w = c.argument-item.result in
     let p = err_from_is_err_and c.from_residual-in_err-push.result c.from_residual-in_err-push.ensures.1 in
-    rw (p.1, p.2) (broken_out _ _ c.loop-argument.invariant c.in_ok-ty.ensures (λ symbols n. n) (λ symbols n v. subst (WrittenIn symbols) (sym c.argument-item.is) (n i w c.loop-argument-test.true)))
+    rw (p.1, p.2) (broken_out _ _ c.loop-argument.invariant c.in_ok-ty.ensures (λ symbols n. n) (λ symbols n v. subst (WrittenIn names symbols) (sym c.argument-item.is) (n i w c.loop-argument-test.true)))
 
 pub checked-returns-in-Primitive : goal.checked-returns-in-Primitive
 unfolding ◌>>=◌ pure
@@ -280,7 +284,7 @@ checked-returns-in-Container g t c =
     ∙ ap (λ (m : Mention). told (m.checks around.bounds) m.ty setting map s) (one.container names _ k element)
     ∙ seen.container_is names around.bounds k element setting map s
     ∙ ap (λ (x : WrittenType). row.contained names around.bounds x k setting map s) (sym own))
-    (λ symbols n. subst (WrittenIn symbols) (sym own) (named.in_container symbols _ k element (subst (WrittenIn symbols) c.in-Container.is n))) (λ symbols a n v. v)
+    (λ symbols n. subst (WrittenIn names symbols) (sym own) (named.in_container names symbols _ k element (subst (WrittenIn names symbols) c.in-Container.is n))) (λ symbols a n v. v)
 
 pub checked-returns-in_ok-key_type-in-Dict : goal.checked-returns-in_ok-key_type-in-Dict
 checked-returns-in_ok-key_type-in-Dict g t c =
@@ -296,15 +300,16 @@ checked-returns-in_ok-key_type-in-Dict g t c =
     ∙ seen.dict_is names around.bounds key value ty setting map s mid (ap (λ (x : WrittenType). row.checked names around.bounds x setting map s) (sym first) ∙ is)
     ∙ ap (λ (p : Place). row.dict names around.bounds value p ty setting map mid) (sym (c.place_of.ensures ∙ ap place_of again))
     ∙ ap (λ (x : WrittenType). row.dict names around.bounds x c.place_of.result ty setting map mid) (sym second))
-    (λ symbols n. subst (WrittenIn symbols) (sym first) (named.in_key symbols _ key value (subst (WrittenIn symbols) c.in-Dict.is n)))
-    (λ symbols n v. (subst (WrittenIn symbols) (sym second) (named.in_value symbols _ key value (subst (WrittenIn symbols) c.in-Dict.is n)), v)) (λ symbols b n v u. u)
+    (λ symbols n. subst (WrittenIn names symbols) (sym first) (named.in_key names symbols _ key value (subst (WrittenIn names symbols) c.in-Dict.is n)))
+    (λ symbols n v. (subst (WrittenIn names symbols) (sym second) (named.in_value names symbols _ key value (subst (WrittenIn names symbols) c.in-Dict.is n)), v)) (λ symbols b n v u. u)
 
 pub checked-returns-in_err-key_type-in-Dict : goal.checked-returns-in_err-key_type-in-Dict
 checked-returns-in_err-key_type-in-Dict g t c =
+    let names = names_in c.args.around.now in
     let key = c.in-Dict.key in let value = c.in-Dict.value in
     let first : c.get-in-Dict.result.now ≡ key = c.get-in-Dict.ensures in
     let p = err_from_is_err_and c.from_residual.result c.from_residual.ensures.1 in
-    rw (p.1, p.2) (walks_failed _ _ c.in_err-key_type-in-Dict.ensures (λ symbols n. subst (WrittenIn symbols) (sym first) (named.in_key symbols _ key value (subst (WrittenIn symbols) c.in-Dict.is n))))
+    rw (p.1, p.2) (walks_failed _ _ c.in_err-key_type-in-Dict.ensures (λ symbols n. subst (WrittenIn names symbols) (sym first) (named.in_key names symbols _ key value (subst (WrittenIn names symbols) c.in-Dict.is n))))
 
 pub checked-returns-in-Shape : goal.checked-returns-in-Shape
 checked-returns-in-Shape g t c =
@@ -315,7 +320,7 @@ checked-returns-in-Shape g t c =
     (λ map. ap (λ (x : WrittenType). row.checked names around.bounds x setting map s) c.in-Shape.is
     ∙ ap (λ (m : Mention). told (m.checks around.bounds) m.ty setting map s) (one.shape names _ fields rest)
     ∙ ap (λ (fs : List FieldType). row.shape names around.bounds fs rest setting map s) (sym own))
-    (λ symbols n. subst (λ (fs : List FieldType). All (FieldIn symbols) fs) (sym own) (named.in_shape symbols _ fields rest (subst (WrittenIn symbols) c.in-Shape.is n)))
+    (λ symbols n. subst (λ (fs : List FieldType). All (FieldIn names symbols) fs) (sym own) (named.in_shape names symbols _ fields rest (subst (WrittenIn names symbols) c.in-Shape.is n)))
     (λ symbols a n v. v)
 
 pub checked-returns-in-Class : goal.checked-returns-in-Class
@@ -325,10 +330,11 @@ checked-returns-in-Class g t c =
     walks_as _ c.checked_class.result c.checked_class.ensures
     (λ map. ap (λ (x : WrittenType). row.checked names around.bounds x setting map s) c.in-Class.is
     ∙ ap (λ (m : Mention). told (m.checks around.bounds) m.ty setting map s) (one.class_type names class))
-    (λ symbols n. named.in_class_type symbols class (subst (WrittenIn symbols) c.in-Class.is n)) (λ symbols a n v. v)
+    (λ symbols n. named.in_class_type names symbols class (subst (WrittenIn names symbols) c.in-Class.is n)) (λ symbols a n v. v)
 
 pub checked_class-returns-in_err-types : goal.checked_class-returns-in_err-types
 checked_class-returns-in_err-types g t c =
+    let names = names_in c.args.around.now in
     let own : c.as_slice.result.now ≡ c.args.class.now.arguments = c.as_slice.ensures in
     let p = err_from_is_err_and c.from_residual.result c.from_residual.ensures.1 in
-    rw (p.1, p.2) (walks_failed _ _ c.in_err-types.ensures (λ symbols n. subst (λ (ws : List WrittenType). All (WrittenIn symbols) ws) (sym own) (named.in_arguments symbols c.args.class.now n)))
+    rw (p.1, p.2) (walks_failed _ _ c.in_err-types.ensures (λ symbols n. subst (λ (ws : List WrittenType). All (WrittenIn names symbols) ws) (sym own) (named.in_arguments names symbols c.args.class.now n)))

@@ -1,7 +1,7 @@
 use Rattle.std.proofs.Common.{◌≡◌, ◌∙◌, Some, None, sym, refl}
 use Rattle.hack_rules.specs.Walks.{◌>>=◌, pure}
 use Rattle.hack_written.specs.inside.Rows.{expect_declared, names_in, parameter_of, setting_in, types_in}
-use Rattle.hack_written.proofs.ParameterNames.{in_parameter, no_parameter, some_parameter}
+use Rattle.hack_written.proofs.ParameterNames.{in_declared, in_parameter, no_parameter, some_parameter}
 use Rattle.hack_written.proofs.Walking.{walked, walks_as}
 use Rattle.hack_written.proofs.parts.named.Goals as goal
 
@@ -23,4 +23,4 @@ returns-in-None g c =
     let is : None ≡ parameter_of names class.name = sym c.in-None.is ∙ c.parameter.ensures in
     walks_as _ c.declared_type.result c.declared_type.ensures
     (λ m. no_parameter names class.name (types_in names class.arguments) (expect_declared names around.bounds class c.args.traits) (setting_in around) m s is)
-    (λ symbols n. n) (λ symbols a n w. w)
+    (λ symbols n. (in_declared symbols names class.name is n.0, n.1)) (λ symbols a n w. w)
