@@ -2,5 +2,4 @@ pub mod NamesFilled
 pub mod Reported
 pub mod Within
 pub mod WrittenIn
-pub mod WrittenLaws
 pub mod inside
