@@ -17,7 +17,7 @@ use Rattle.hack_rules.specs.WrittenTypes.{names_of}
 use Rattle.hack_decls.specs.DeclState.{Symbols}
 use Rattle.hack_decls.specs.Names.{class_symbol}
 use Rattle.hack_sub.specs.declared.scope.Scope.{Scope}
-use Rattle.hack_written.specs.WrittenIn.{symbols_of as written_symbols}
+use Rattle.hack_written.specs.WrittenIn.{WrittenIn, symbols_of as written_symbols}
 
 abbrev pub Mentioned : Type 0
 Mentioned = List SymbolId
@@ -122,3 +122,7 @@ FieldIn scope symbols field = All (λ s. IsTrue (symbols s)) (field_symbols_of s
 -- the same of an operand of a chain
 unfoldable pub OperandIn : Scope → Symbols → Operand → Type 0
 OperandIn scope symbols operand = All (λ s. IsTrue (symbols s)) (operand_symbols_of scope operand)
+
+-- the same of the type that is tested
+abbrev pub TestIn : Scope → Symbols → TypeTest → Type 0
+TestIn scope symbols test = WrittenIn (names_of scope) symbols test.tested

@@ -21,7 +21,7 @@ use Rattle.hack_tree.specs.declared.expression.PrefixOperator.{PrefixOperator}
 use Rattle.hack_tree.specs.declared.expression.TypeTest.{TypeTest}
 use Rattle.hack_tree.specs.declared.written_type.Container.{Container}
 use Rattle.hack_types.specs.declared.place.Place.{Place}
-use Rattle.hack_parts.specs.ExprIn.{EntryIn, ExprIn, FieldIn, Mentioned, OperandIn, entry_symbols_by, entry_symbols_of, field_symbols_by, field_symbols_of, member_symbols_by, of_all, of_any, of_test, operand_symbols_by, operand_symbols_of, suffix_symbols_by, symbols_by, symbols_of}
+use Rattle.hack_parts.specs.ExprIn.{EntryIn, ExprIn, FieldIn, Mentioned, OperandIn, TestIn, entry_symbols_by, entry_symbols_of, field_symbols_by, field_symbols_of, member_symbols_by, of_all, of_any, of_test, operand_symbols_by, operand_symbols_of, suffix_symbols_by, symbols_by, symbols_of}
 
 short_symbols : (scope : Scope) (at : Place) (condition other : Expr) → symbols_of scope (e.Conditional at condition None other) ≡ symbols_of scope condition ++ of_any None ++ symbols_of scope other
 short_symbols scope at condition other =
@@ -105,11 +105,11 @@ module _ (scope : Scope) (symbols : Symbols) where
       All-cons (FieldIn scope symbols) x xs (front In (field_symbols_of scope x) (of_all (map (field_symbols_of scope) xs)) all)
       (each_field xs (back In (field_symbols_of scope x) (of_all (map (field_symbols_of scope) xs)) all))
 
-  each_test : (tests : List TypeTest) → All In (flat_map (of_test (names_of scope)) tests) → All (λ t. WrittenIn (names_of scope) symbols t.tested) tests
+  each_test : (tests : List TypeTest) → All In (flat_map (of_test (names_of scope)) tests) → All (TestIn scope symbols) tests
   unfolding WrittenIn
   each_test [] all = λ k d lt. absurd (omega (arith, lt))
   each_test (t ∷ ts) all =
-      All-cons (λ t. WrittenIn (names_of scope) symbols t.tested) t ts (front In (of_test (names_of scope) t) (flat_map (of_test (names_of scope)) ts) all) (each_test ts (back In (of_test (names_of scope) t) (flat_map (of_test (names_of scope)) ts) all))
+      All-cons (TestIn scope symbols) t ts (front In (of_test (names_of scope) t) (flat_map (of_test (names_of scope)) ts) all) (each_test ts (back In (of_test (names_of scope) t) (flat_map (of_test (names_of scope)) ts) all))
 
   pub in_operands : (at : Place) (operands : List Expr) → ExprIn scope symbols (e.Power at operands) → All (ExprIn scope symbols) operands
   unfolding ExprIn
@@ -139,7 +139,7 @@ module _ (scope : Scope) (symbols : Symbols) where
   unfolding ExprIn
   in_operand at operand tests all = front In (symbols_of scope operand) (flat_map (of_test (names_of scope)) tests) (subst (λ (s : List SymbolId). All In s) (test_symbols scope at operand tests) all)
 
-  pub in_tests : (at : Place) (operand : Expr) (tests : List TypeTest) → ExprIn scope symbols (e.Test at operand tests) → All (λ t. WrittenIn (names_of scope) symbols t.tested) tests
+  pub in_tests : (at : Place) (operand : Expr) (tests : List TypeTest) → ExprIn scope symbols (e.Test at operand tests) → All (TestIn scope symbols) tests
   unfolding ExprIn
   in_tests at operand tests all = each_test tests (back In (symbols_of scope operand) (flat_map (of_test (names_of scope)) tests) (subst (λ (s : List SymbolId). All In s) (test_symbols scope at operand tests) all))
 

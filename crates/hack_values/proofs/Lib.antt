@@ -1,0 +1,10 @@
+pub mod Declared
+pub mod Elements
+pub mod Entries
+pub mod Fields
+pub mod Keys
+pub mod Naming
+pub mod Pairs
+pub mod Stepping
+pub mod Testing
+pub mod This

@@ -1,0 +1,14 @@
+use Rattle.std.proofs.Common.{◌∙◌, ◌++◌, ◌∷◌, [], ap}
+use Rattle.hack_types.specs.declared.diag.Diag.{Diag}
+use Rattle.hack_types.specs.declared.hack_type.HackType.TheVariants.{Arraykey}
+use Rattle.hack_diag.specs.Messages.{expected}
+use Rattle.hack_walk.specs.WalkLaws.{step_unless_not, step_unless_so}
+use Rattle.hack_values.proofs.containers.report_unless.Goals as goal
+
+pub returns-then-fits : goal.returns-then-fits
+returns-then-fits c = step_unless_so c.args.state.now c.args.fits c.args.at (expected Arraykey c.args.ty.now) c.if-fits.true
+
+pub returns : goal.returns
+returns c =
+    step_unless_not c.args.state.now c.report.new.self c.args.fits c.args.at (expected Arraykey c.args.ty.now) c.if-fits.false c.in_ok-report.ensures.variables
+    (c.in_ok-report.ensures.found ∙ ap (λ (diag : Diag). c.args.state.now.found ++ diag ∷ []) c.in_ok-diag.ensures)
