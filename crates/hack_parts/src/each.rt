@@ -30,7 +30,8 @@ pub fn types_of_each<
     requires parts { All (λ e. Values D.state e (F.pre value.now) (F.post value.now)) parts.now }
     ensures { Walks (each value_of parts.now) (setting_of setting.now)
         (D.state decls.old) state.old result (D.state decls.new) state.new
-        (λ symbols. All (ExprIn setting.now.scope.now symbols) parts.now) (λ symbols types. All (TypeIn symbols) types) }
+        (λ symbols. All (ExprIn setting.now.scope.now symbols) parts.now)
+        (λ symbols types. All (TypeIn symbols) types) }
 {
     let mut types = Items::new(alloc);
     for part in parts {

@@ -216,7 +216,8 @@ fn entry_types<
     requires value { Values D.state entry.now.value (F.pre value.now) (F.post value.now) }
     ensures { Walks (row.entry_types entry.now) (setting_of setting.now)
         (D.state decls.old) state.old result (D.state decls.new) state.new
-        (λ symbols. EntryIn setting.now.scope.now symbols entry.now) (λ symbols types. TypesIn symbols types) }
+        (λ symbols. EntryIn setting.now.scope.now symbols entry.now)
+        (λ symbols types. TypesIn symbols types) }
 {
     let key = key_type(value, alloc, setting, decls, state, &entry.key)?;
     let ty = value(alloc, setting, decls, state, &entry.value, Reading::Value)?;

@@ -185,7 +185,8 @@ fn is_branches<
     requires operand { Values D.state operand.now (F.pre value.now) (F.post value.now) }
     ensures { Walks (is_branches (meaning_of operand.now) test.now) (setting_of setting.now)
         (D.state decls.old) state.old result (D.state decls.new) state.new
-        (λ symbols. ExprIn setting.now.scope.now symbols operand.now × TestIn setting.now.scope.now symbols test.now) BranchesIn }
+        (λ symbols. ExprIn setting.now.scope.now symbols operand.now
+        × TestIn setting.now.scope.now symbols test.now) BranchesIn }
 {
     let ty = value(alloc, setting, decls, state, operand, Reading::Value)?;
     drop(ty);
