@@ -1,4 +1,4 @@
--- The symbols that a written type names (docs/language.md, Written types): those of the names in it, but of those that are type parameters.
+-- The symbols that a written type names (docs/language.md, Written types): one for each name in it that no type parameter has.
 use Rattle.std.specs.Prelude.{ℕ, List, [], ◌∷◌, ◌++◌, All, IsTrue, if◌then◌else◌}
 use Rattle.std.specs.List.{flat_map}
 use Rattle.hack_tree.specs.declared.written_type.ClassType.{ClassType}
@@ -15,7 +15,7 @@ use Rattle.hack_rules.specs.WrittenTypes.{is_parameter}
 abbrev pub Mentioned : Type 0
 Mentioned = List SymbolId
 
--- what is declared under a name; a type parameter stands for nothing that is declared, also where something has its name
+-- the symbol of a name, and none where a type parameter has the name, whatever is declared under it
 abbrev pub name_symbols : Names → ℕ → Mentioned
 name_symbols names name = if is_parameter names name then [] else class_symbol name ∷ []
 
