@@ -1,0 +1,10 @@
+pub mod LeftGroups
+pub mod LeftSteps
+pub mod Naming
+pub mod Reaching
+pub mod RightGroups
+pub mod RightSteps
+pub mod Sides
+pub mod Splits
+pub mod Turning
+pub mod WholeChains

@@ -1,0 +1,8 @@
+use Rattle.std.proofs.Common.{◌+◌, ◌*◌}
+use Rattle.hack_expr.proofs.tie.+value.Given as goal
+
+abbrev pub decreases-value : goal.decreases-value
+decreases-value g l = 3 * goal.size-value g l
+
+abbrev pub decreases-branches_of : goal.decreases-branches_of
+decreases-branches_of g l = 3 * goal.size-branches_of g l + 1

@@ -1,0 +1,2 @@
+pub mod FirstHalf
+pub mod Judged
