@@ -2,7 +2,7 @@
 
 use crate::plain::{note, push_fault, push_made};
 use crate::run::Table;
-use crate::{below, folding, inferring, operators, types};
+use crate::{below, bodies, folding, inferring, operators, types};
 use hack_first::{FirstUnit, Primitive, Returned, are_first, first_unit};
 use hack_parse_file::{ParseStop, parse_file, room_by_length};
 use hack_shallow::shallow_of;
@@ -79,6 +79,7 @@ fn show(
         Table::Below => below::show_last(alloc, out, units),
         Table::Solved => inferring::show_last(alloc, out, units),
         Table::Operators => operators::show_last(alloc, out, names, units),
+        Table::WrittenTypes => bodies::show_last(alloc, table, out, names, units),
         Table::Different => types::different(alloc, out, units),
         Table::Files => {
             out.word("ok");

@@ -9,6 +9,8 @@ mod base;
 #[cfg(test)]
 mod below;
 #[cfg(test)]
+mod bodies;
+#[cfg(test)]
 mod diagnostics;
 #[cfg(test)]
 mod files;
@@ -40,3 +42,5 @@ mod streams;
 mod texts;
 #[cfg(test)]
 mod types;
+#[cfg(test)]
+mod written;

@@ -17,3 +17,4 @@ pub(crate) mod shallow;
 pub(crate) mod streams;
 pub(crate) mod types;
 pub(crate) mod words;
+pub(crate) mod written;

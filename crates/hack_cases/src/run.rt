@@ -47,6 +47,7 @@ pub(crate) enum Table {
     Below,
     Solved,
     Operators,
+    WrittenTypes,
     Units,
     Machine,
     Served(usize),
@@ -54,7 +55,7 @@ pub(crate) enum Table {
     Statuses,
 }
 
-const ALL: [Table; 43] = [
+const ALL: [Table; 44] = [
     Table::Words,
     Table::Lists,
     Table::NoWords,
@@ -91,6 +92,7 @@ const ALL: [Table; 43] = [
     Table::Below,
     Table::Solved,
     Table::Operators,
+    Table::WrittenTypes,
     Table::Units,
     Table::Machine,
     Table::Served(1),
@@ -137,6 +139,7 @@ impl Table {
             Table::Below => rows::below::BELOW,
             Table::Solved => rows::inferring::SOLVED,
             Table::Operators => rows::operators::OPERATORS,
+            Table::WrittenTypes => rows::written::WRITTEN,
             Table::Units => rows::first::UNITS,
             Table::Machine => rows::machine::RUNS,
             Table::Served(_) => rows::serve::SERVED,
@@ -182,7 +185,7 @@ impl Table {
 #[test]
 fn each_row_has_its_answer(rt: HostRuntime) -> Result<(), Fail> {
     let report = try_all(rt.alloc())?;
-    assert_eq!(rt; str::from_utf8(&report).unwrap_or("?"), "1139 rows");
+    assert_eq!(rt; str::from_utf8(&report).unwrap_or("?"), "1210 rows");
     Ok(())
 }
 
@@ -203,11 +206,16 @@ fn try_all(alloc: Global) -> Result<Vec<u8>, NoMemory> {
 fn try_table(alloc: Global, table: Table, report: &mut Out<'_>) -> u32 {
     let mut right: u32 = 0;
     for row in table.rows().split('\n') {
-        if !row.is_empty() && is_right(alloc, table, row, report) {
+        if is_row(row) && is_right(alloc, table, row, report) {
             right = right.wrapping_add(1);
         }
     }
     right
+}
+
+// Whether a line is a row: none is empty, and a line behind `-- ` says what the rows below it are about.
+fn is_row(line: &str) -> bool {
+    !line.is_empty() && line.strip_prefix("-- ").is_none()
 }
 
 fn is_right(alloc: Global, table: Table, row: &str, report: &mut Out<'_>) -> bool {
