@@ -3,7 +3,7 @@
 use crate::below::fold_units;
 use crate::plain::{push_made, push_number};
 use crate::run::Table;
-use crate::written;
+use crate::{expressions, written};
 use hack_decls::{Decls, MapDecls, MemberAnswer, MemberTag};
 use hack_shallow::shallow_of;
 use hack_show::Out;
@@ -119,7 +119,7 @@ fn show(
     let parameters = callee.callable.parameters.as_slice();
     match table {
         Table::WrittenTypes => written::show(alloc, out, setting, decls, parameters),
-        _ => {}
+        _ => expressions::show(alloc, out, setting, decls, parameters, params, callee.body),
     }
 }
 

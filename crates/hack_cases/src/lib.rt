@@ -13,6 +13,8 @@ mod bodies;
 #[cfg(test)]
 mod diagnostics;
 #[cfg(test)]
+mod expressions;
+#[cfg(test)]
 mod files;
 #[cfg(test)]
 mod folding;

@@ -48,8 +48,8 @@ fn take(
     variables.put(name, union?)
 }
 
-// The variables of a function's parameters.
-fn taken(
+/// The variables of these parameters, which take these types.
+pub(crate) fn taken(
     alloc: Global,
     variables: &mut Variables,
     parameters: &[Parameter],
@@ -185,8 +185,8 @@ fn of_function(
     bound
 }
 
-// The expression that a body of one statement returns.
-fn returned(body: &[Stmt]) -> Option<&Expr> {
+/// The expression that a body of one statement returns.
+pub(crate) fn returned(body: &[Stmt]) -> Option<&Expr> {
     match body {
         [
             Stmt::Return {

@@ -3,6 +3,7 @@
 pub(crate) mod base;
 pub(crate) mod below;
 pub(crate) mod diag;
+pub(crate) mod expressions;
 pub(crate) mod first;
 pub(crate) mod folding;
 pub(crate) mod inferring;

@@ -48,6 +48,7 @@ pub(crate) enum Table {
     Solved,
     Operators,
     WrittenTypes,
+    Expressions,
     Units,
     Machine,
     Served(usize),
@@ -55,7 +56,7 @@ pub(crate) enum Table {
     Statuses,
 }
 
-const ALL: [Table; 44] = [
+const ALL: [Table; 45] = [
     Table::Words,
     Table::Lists,
     Table::NoWords,
@@ -93,6 +94,7 @@ const ALL: [Table; 44] = [
     Table::Solved,
     Table::Operators,
     Table::WrittenTypes,
+    Table::Expressions,
     Table::Units,
     Table::Machine,
     Table::Served(1),
@@ -140,6 +142,7 @@ impl Table {
             Table::Solved => rows::inferring::SOLVED,
             Table::Operators => rows::operators::OPERATORS,
             Table::WrittenTypes => rows::written::WRITTEN,
+            Table::Expressions => rows::expressions::EXPRESSIONS,
             Table::Units => rows::first::UNITS,
             Table::Machine => rows::machine::RUNS,
             Table::Served(_) => rows::serve::SERVED,
@@ -185,7 +188,7 @@ impl Table {
 #[test]
 fn each_row_has_its_answer(rt: HostRuntime) -> Result<(), Fail> {
     let report = try_all(rt.alloc())?;
-    assert_eq!(rt; str::from_utf8(&report).unwrap_or("?"), "1210 rows");
+    assert_eq!(rt; str::from_utf8(&report).unwrap_or("?"), "1480 rows");
     Ok(())
 }
 
