@@ -4,13 +4,13 @@ use crate::below::fold_units;
 use crate::plain::{push_made, push_number};
 use crate::run::Table;
 use crate::{expressions, written};
-use hack_decls::{Decls, MapDecls, MemberAnswer, MemberTag};
+use hack_decls::{DeclStop, Decls, MapDecls, MemberAnswer, MemberTag};
 use hack_shallow::shallow_of;
 use hack_show::Out;
 use hack_sub::Scope;
-use hack_tree::{Callable, Member, Stmt, Unit, UnitTree};
+use hack_tree::{Callable, Member as MemberTree, Stmt, Unit, UnitTree};
 use hack_types::{
-    ClassSig, Diag, HackType, MemberKind, NameId, Names, NoMemory, Param, Shallow, Signature,
+    Diag, HackType, Member, MemberKind, NameId, Names, NoMemory, Param, Shallow, Signature,
     SymbolId, TypeParam, type_text,
 };
 use hack_walk::Setting;
@@ -43,10 +43,10 @@ fn callee_of(tree: &UnitTree) -> Option<Callee<'_>> {
     }
 }
 
-fn method_of(members: &[Member]) -> Option<Callee<'_>> {
+fn method_of(members: &[MemberTree]) -> Option<Callee<'_>> {
     match members.last() {
         Some(
-            Member::Method {
+            MemberTree::Method {
                 callable,
                 body: Some(body),
                 ..
@@ -66,31 +66,52 @@ fn inside_of(
     name: NameId,
 ) -> Result<Option<Inside>, NoMemory> {
     match shallow_of(alloc, unit)? {
-        Shallow::Function(signature) => Ok(Some(inside(signature, None, true))),
-        Shallow::ClassLike(class) => Ok(inside_method(alloc, decls, unit.symbol, class, name)),
+        Shallow::Function(signature) => Ok(Some(in_scope(signature, None, true))),
+        Shallow::ClassLike(class) => {
+            let method = method_by(alloc, decls, unit.symbol, name);
+            Ok(inside_method(unit.symbol.name, class.type_params, method))
+        }
         _ => Ok(None),
     }
 }
 
-// The same of a method by its name.
-fn inside_method(
+// The method of this name of a class.
+fn method_by(
     alloc: Global,
     decls: &mut MapDecls,
     symbol: SymbolId,
-    class: ClassSig,
     name: NameId,
+) -> Option<Member> {
+    found_in(decls.member(alloc, symbol, MemberTag::Method, name))
+}
+
+// The same of a method of the class of this name, with these type parameters.
+fn inside_method(
+    class: NameId,
+    params: Items<TypeParam>,
+    method: Option<Member>,
 ) -> Option<Inside> {
-    let class = Some((symbol.name, class.type_params));
-    match decls.member(alloc, symbol, MemberTag::Method, name) {
-        Ok(MemberAnswer::At(member)) => match member.kind {
-            MemberKind::Method(signature) => Some(inside(signature, class, member.is_static)),
-            _ => None,
-        },
+    let method = method?;
+    let in_static = method.is_static;
+    let signature = signature_of(method)?;
+    Some(in_scope(signature, Some((class, params)), in_static))
+}
+
+fn found_in(answer: Result<MemberAnswer, DeclStop>) -> Option<Member> {
+    match answer {
+        Ok(MemberAnswer::At(member)) => Some(member),
         _ => None,
     }
 }
 
-fn inside(
+fn signature_of(member: Member) -> Option<Signature> {
+    match member.kind {
+        MemberKind::Method(signature) => Some(signature),
+        _ => None,
+    }
+}
+
+fn in_scope(
     signature: Signature,
     class: Option<(NameId, Items<TypeParam>)>,
     in_static: bool,

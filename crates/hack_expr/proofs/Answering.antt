@@ -1,5 +1,5 @@
 -- What a check answers in these variables, where it began with them and no diagnostics.
-use Rattle.std.proofs.Common.{◌≡◌, ◌∙◌, List, [], Ok, sym, ap, subst}
+use Rattle.std.proofs.Common.{◌≡◌, ◌∙◌, [], Ok, sym, subst}
 use Rattle.hack_decls.specs.AskLaws.{said}
 use Rattle.hack_decls.specs.Asks.{Asks}
 use Rattle.hack_decls.specs.DeclState.{DeclState}

@@ -3,7 +3,7 @@ use Rattle.std.proofs.Common.{◌≡◌, Ok, sym, subst}
 use Rattle.hack_decls.specs.DeclState.{DeclState, Symbols}
 use Rattle.hack_decls.specs.Names.{TypeIn}
 use Rattle.hack_rules.specs.Meanings.{Branches, plain_branches}
-use Rattle.hack_rules.specs.Walks.{Setting, State, Walk, ◌>>=◌, ◌>>◌, pure, variables}
+use Rattle.hack_rules.specs.Walks.{Setting, State, Walk, ◌>>=◌, pure, variables}
 use Rattle.hack_types.specs.declared.hack_type.HackType.{HackType}
 use Rattle.hack_walk.specs.Checks.{BranchesIn, Steps, VariablesIn, Walks}
 use Rattle.hack_walk.specs.WalkLaws.{of_step, walks_next}

@@ -1,5 +1,5 @@
 -- The types of literals name nothing.
-use Rattle.std.proofs.Common.{◌≡◌, List, refl, sym}
+use Rattle.std.proofs.Common.{List, sym}
 use Rattle.hack_tree.specs.declared.expression.Literal.{Literal}
 use Rattle.hack_tree.specs.declared.expression.Literal.TheVariants as literal
 use Rattle.hack_types.specs.declared.hack_type.HackType.TheFolds.{fold-roll-HackType}

@@ -1,6 +1,5 @@
-use Rattle.std.proofs.Common.{◌≡◌, ◌∙◌, Option, ap, sym, option_map}
+use Rattle.std.proofs.Common.{sym}
 use Rattle.hack_operators.specs.Seen.{sign_seen}
-use Rattle.hack_operators.specs.declared.sign.Sign.{Sign}
 use Rattle.hack_rules.specs.Expressions.{meaning_of}
 use Rattle.hack_walk.specs.Checks.{setting_of}
 use Rattle.hack_walk.specs.WalkLaws.{walks_as}

@@ -1,10 +1,6 @@
-use Rattle.std.proofs.Common.{◌+◌, ◌*◌, arith, Option, subst, sym, ◌<◌, ℕ, length, get_or, refl, ap, ◌∙◌, rules}
-use Rattle.std.proofs.iter.Serving.{serving}
+use Rattle.std.proofs.Common.{◌+◌, ◌*◌, arith, Option, subst, sym, ◌<◌, refl, ap, ◌∙◌}
 use Rattle.hack_parts.specs.ExprMeanings as one
-use Rattle.hack_tree.specs.declared.expression.Entry.{Entry}
 use Rattle.hack_tree.specs.declared.expression.Expr.{Expr, size-Expr}
-use Rattle.hack_tree.specs.declared.expression.FieldValue.{FieldValue}
-use Rattle.hack_tree.specs.declared.expression.Operand.{Operand}
 use Rattle.hack_tree.specs.declared.expression.PrefixOperator.{PrefixOperator}
 use Rattle.hack_tree.specs.declared.expression.PrefixOperator.TheVariants as operator
 use Rattle.hack_tree.specs.declared.expression.Expr.TheVariants as e
