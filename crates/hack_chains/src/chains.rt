@@ -49,7 +49,8 @@ pub fn chain<
     ensures { Walks
         (walk_by reading (chain_value (meaning_of first.now) (map joined_of others.now)))
         (setting_of setting.now) (D.state decls.old) state.old result (D.state decls.new) state.new
-        (λ symbols. ExprIn setting.now.scope.now symbols first.now × All (OperandIn setting.now.scope.now symbols) others.now) TypeIn }
+        (λ symbols. ExprIn setting.now.scope.now symbols first.now
+        × All (OperandIn setting.now.scope.now symbols) others.now) TypeIn }
 {
     match split_last(others) {
         Some((front, last)) => value_of_chain(
@@ -83,7 +84,8 @@ pub fn chain_branches<
         (G.pre condition.now) (G.post condition.now)) others.now }
     ensures { Walks (chain_value (meaning_of first.now) (map joined_of others.now)).branches
         (setting_of setting.now) (D.state decls.old) state.old result (D.state decls.new) state.new
-        (λ symbols. ExprIn setting.now.scope.now symbols first.now × All (OperandIn setting.now.scope.now symbols) others.now) BranchesIn }
+        (λ symbols. ExprIn setting.now.scope.now symbols first.now
+        × All (OperandIn setting.now.scope.now symbols) others.now) BranchesIn }
 {
     match split_last(others) {
         Some((front, last)) => branches_of_chain(

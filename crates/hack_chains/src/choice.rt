@@ -39,7 +39,9 @@ pub fn conditional<
     ensures { Walks (conditional_row (meaning_of c.now) (meaning_of middle.now)
         (meaning_of other.now)) (setting_of setting.now)
         (D.state decls.old) state.old result (D.state decls.new) state.new
-        (λ symbols. ExprIn setting.now.scope.now symbols c.now × ExprIn setting.now.scope.now symbols middle.now × ExprIn setting.now.scope.now symbols other.now)
+        (λ symbols. ExprIn setting.now.scope.now symbols c.now
+        × ExprIn setting.now.scope.now symbols middle.now
+        × ExprIn setting.now.scope.now symbols other.now)
         TypeIn }
 {
     let branches = condition(alloc, setting, decls, state, c)?;
@@ -64,7 +66,8 @@ pub fn short<
     requires other { Values D.state other.now (F.pre value.now) (F.post value.now) }
     ensures { Walks (short_row (meaning_of c.now) (meaning_of other.now)) (setting_of setting.now)
         (D.state decls.old) state.old result (D.state decls.new) state.new
-        (λ symbols. ExprIn setting.now.scope.now symbols c.now × ExprIn setting.now.scope.now symbols other.now) TypeIn }
+        (λ symbols. ExprIn setting.now.scope.now symbols c.now
+        × ExprIn setting.now.scope.now symbols other.now) TypeIn }
 {
     let first = value(alloc, setting, decls, state, c, Reading::Value)?;
     let second = value(alloc, setting, decls, state, other, Reading::Value)?;
@@ -90,7 +93,8 @@ fn parts_on<
     ensures { Walks (parts_on (meaning_of middle.now) (meaning_of other.now) branches)
         (setting_of setting.now) (D.state decls.old) state.old result (D.state decls.new) state.new
         (λ symbols. BranchesIn symbols branches
-        × ExprIn setting.now.scope.now symbols middle.now × ExprIn setting.now.scope.now symbols other.now) TypeIn }
+        × ExprIn setting.now.scope.now symbols middle.now
+        × ExprIn setting.now.scope.now symbols other.now) TypeIn }
 {
     let (when_true, when_false) = branches.into_parts();
     state.replace(when_true);
@@ -116,7 +120,8 @@ fn other_on<
     requires other { Values D.state other.now (F.pre value.now) (F.post value.now) }
     ensures { Walks (other_on (meaning_of other.now) behind first)
         (setting_of setting.now) (D.state decls.old) state.old result (D.state decls.new) state.new
-        (λ symbols. ExprIn setting.now.scope.now symbols other.now × VariablesIn symbols behind × TypeIn symbols first)
+        (λ symbols. ExprIn setting.now.scope.now symbols other.now × VariablesIn symbols behind
+        × TypeIn symbols first)
         TypeIn }
 {
     let second = value(alloc, setting, decls, state, other, Reading::Value)?;

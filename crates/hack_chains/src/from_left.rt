@@ -43,7 +43,8 @@ pub fn from_left<
         (G.pre condition.now) (G.post condition.now)) others.now }
     ensures { Walks (reached last (from_left (meaning_of first.now) (map joined_of others.now)))
         (setting_of setting.now) (D.state decls.old) state.old result (D.state decls.new) state.new
-        (λ symbols. ExprIn setting.now.scope.now symbols first.now × All (OperandIn setting.now.scope.now symbols) others.now) SoFarIn }
+        (λ symbols. ExprIn setting.now.scope.now symbols first.now
+        × All (OperandIn setting.now.scope.now symbols) others.now) SoFarIn }
 {
     let at = place_of(first);
     let wanted = asked_at(others, 0, last);

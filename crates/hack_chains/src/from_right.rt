@@ -39,7 +39,8 @@ pub fn rest_from_right<
     requires last_value { Values D.state last.now.operand (F.pre value.now) (F.post value.now) }
     ensures { Walks (lefts_row front.now last.now) (setting_of setting.now)
         (D.state decls.old) state.old result (D.state decls.new) state.new
-        (λ symbols. All (OperandIn setting.now.scope.now symbols) front.now × OperandIn setting.now.scope.now symbols last.now) TypeIn }
+        (λ symbols. All (OperandIn setting.now.scope.now symbols) front.now
+        × OperandIn setting.now.scope.now symbols last.now) TypeIn }
 {
     let items = typed_lefts(value, alloc, setting, decls, state, front)?;
     let ty = value(alloc, setting, decls, state, &last.operand, Reading::Value)?;

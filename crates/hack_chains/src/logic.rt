@@ -41,7 +41,8 @@ pub fn logic_value<
     requires right { Values D.state right.now (F.pre value.now) (F.post value.now) }
     ensures { Walks (logic_row and (meaning_of right.now) first) (setting_of setting.now)
         (D.state decls.old) state.old result (D.state decls.new) state.new
-        (λ symbols. BranchesIn symbols first × ExprIn setting.now.scope.now symbols right.now) TypeIn }
+        (λ symbols. BranchesIn symbols first
+        × ExprIn setting.now.scope.now symbols right.now) TypeIn }
 {
     let (typed, apart) = sides(and, first);
     state.replace(typed);
@@ -67,7 +68,8 @@ pub fn logic_branches<
     requires right { Conditions D.state right.now (G.pre condition.now) (G.post condition.now) }
     ensures { Walks (logic_branches and (meaning_of right.now) first) (setting_of setting.now)
         (D.state decls.old) state.old result (D.state decls.new) state.new
-        (λ symbols. BranchesIn symbols first × ExprIn setting.now.scope.now symbols right.now) BranchesIn }
+        (λ symbols. BranchesIn symbols first
+        × ExprIn setting.now.scope.now symbols right.now) BranchesIn }
 {
     let (typed, apart) = sides(and, first);
     state.replace(typed);

@@ -60,7 +60,8 @@ fn power_of<
     requires last { Values D.state last.now (F.pre value.now) (F.post value.now) }
     ensures { Walks (values_row front.now last.now) (setting_of setting.now)
         (D.state decls.old) state.old result (D.state decls.new) state.new
-        (λ symbols. All (ExprIn setting.now.scope.now symbols) front.now × ExprIn setting.now.scope.now symbols last.now) TypeIn }
+        (λ symbols. All (ExprIn setting.now.scope.now symbols) front.now
+        × ExprIn setting.now.scope.now symbols last.now) TypeIn }
 {
     let items = typed_values(value, alloc, setting, decls, state, front)?;
     let ty = value(alloc, setting, decls, state, last, Reading::Value)?;

@@ -65,7 +65,8 @@ pub fn step_value<
     requires right { Values D.state right.now (F.pre value.now) (F.post value.now) }
     ensures { Walks (step_value at operator (meaning_of right.now) so_far) (setting_of setting.now)
         (D.state decls.old) state.old result (D.state decls.new) state.new
-        (λ symbols. SoFarIn symbols so_far × ExprIn setting.now.scope.now symbols right.now) TypeIn }
+        (λ symbols. SoFarIn symbols so_far
+        × ExprIn setting.now.scope.now symbols right.now) TypeIn }
 {
     match so_far {
         SoFar::Value(first) => value_on(
@@ -106,7 +107,8 @@ pub fn step_branches<
     requires condition { Conditions D.state right.now (G.pre condition.now) (G.post condition.now) }
     ensures { Walks (step_branches at subject operator (meaning_of right.now) so_far)
         (setting_of setting.now) (D.state decls.old) state.old result (D.state decls.new) state.new
-        (λ symbols. SoFarIn symbols so_far × ExprIn setting.now.scope.now symbols right.now) BranchesIn }
+        (λ symbols. SoFarIn symbols so_far
+        × ExprIn setting.now.scope.now symbols right.now) BranchesIn }
 {
     match so_far {
         SoFar::Value(first) => branches_on(
@@ -148,7 +150,8 @@ pub fn step<
     requires condition { Conditions D.state right.now (G.pre condition.now) (G.post condition.now) }
     ensures { Walks (step_on wanted at subject operator (meaning_of right.now) so_far)
         (setting_of setting.now) (D.state decls.old) state.old result (D.state decls.new) state.new
-        (λ symbols. SoFarIn symbols so_far × ExprIn setting.now.scope.now symbols right.now) SoFarIn }
+        (λ symbols. SoFarIn symbols so_far
+        × ExprIn setting.now.scope.now symbols right.now) SoFarIn }
 {
     match wanted {
         Wanted::Value => value_so_far(
@@ -241,7 +244,8 @@ fn value_so_far<
     requires right { Values D.state right.now (F.pre value.now) (F.post value.now) }
     ensures { Walks (value_so_far at operator (meaning_of right.now) so_far)
         (setting_of setting.now) (D.state decls.old) state.old result (D.state decls.new) state.new
-        (λ symbols. SoFarIn symbols so_far × ExprIn setting.now.scope.now symbols right.now) SoFarIn }
+        (λ symbols. SoFarIn symbols so_far
+        × ExprIn setting.now.scope.now symbols right.now) SoFarIn }
 {
     let ty = step_value(
         value, alloc, setting, decls, state, at, operator, so_far, right,
@@ -271,7 +275,8 @@ fn branches_so_far<
     requires condition { Conditions D.state right.now (G.pre condition.now) (G.post condition.now) }
     ensures { Walks (branches_so_far at subject operator (meaning_of right.now) so_far)
         (setting_of setting.now) (D.state decls.old) state.old result (D.state decls.new) state.new
-        (λ symbols. SoFarIn symbols so_far × ExprIn setting.now.scope.now symbols right.now) SoFarIn }
+        (λ symbols. SoFarIn symbols so_far
+        × ExprIn setting.now.scope.now symbols right.now) SoFarIn }
 {
     let branches = step_branches(
         value, condition, alloc, setting, decls, state, at, subject, operator, so_far, right,

@@ -36,7 +36,8 @@ pub fn value_on<
     requires right { Values D.state right.now (F.pre value.now) (F.post value.now) }
     ensures { Walks (value_on at operator (meaning_of right.now) first.now) (setting_of setting.now)
         (D.state decls.old) state.old result (D.state decls.new) state.new
-        (λ symbols. TypeIn symbols first.now × ExprIn setting.now.scope.now symbols right.now) TypeIn }
+        (λ symbols. TypeIn symbols first.now
+        × ExprIn setting.now.scope.now symbols right.now) TypeIn }
 {
     let second = value(alloc, setting, decls, state, right, Reading::Value)?;
     outcome(alloc, setting, decls, state, at, operator, first, second)
@@ -62,7 +63,8 @@ pub fn branches_on<
     requires right { Values D.state right.now (F.pre value.now) (F.post value.now) }
     ensures { Walks (branches_on at subject operator (meaning_of right.now) first.now)
         (setting_of setting.now) (D.state decls.old) state.old result (D.state decls.new) state.new
-        (λ symbols. TypeIn symbols first.now × ExprIn setting.now.scope.now symbols right.now) BranchesIn }
+        (λ symbols. TypeIn symbols first.now
+        × ExprIn setting.now.scope.now symbols right.now) BranchesIn }
 {
     let second = value(alloc, setting, decls, state, right, Reading::Value)?;
     outcome_branches(

@@ -34,7 +34,8 @@ pub(crate) fn prefixed<
 ) -> Result<HackType, DeclStop>
     requires operator { IsTrue (keeps_its_operand operator) }
     requires operand { Values D.state operand.now (F.pre value.now) (F.post value.now) }
-    ensures { Walks (prefix_value at operator (meaning_of operand.now)).walk (setting_of setting.now)
+    ensures { Walks (prefix_value at operator (meaning_of operand.now)).walk
+        (setting_of setting.now)
         (D.state decls.old) state.old result (D.state decls.new) state.new
         (λ symbols. ExprIn setting.now.scope.now symbols operand.now) TypeIn }
 {
