@@ -1,5 +1,5 @@
 // A table of words, each with a value.
-ghost use Rattle.std.specs.Prelude.{◌≡◌, ◌<◌, ◌≤◌, ◌+◌, ◌^◌, ℕ, List, length, drop, MatchOption, IfSome, IfNone, slice_index_or, [], AllPairs};
+ghost use Rattle.std.specs.Prelude.{◌≡◌, ◌<◌, ◌≤◌, ◌+◌, ℕ, length, drop, IfSome, IfNone, slice_index_or, [], AllPairs};
 ghost use Rattle.std.specs.Bool.{OnTrue, OnFalse};
 ghost use Rattle.std.specs.List.{zip, prefix_len};
 ghost use Rattle.case_table.specs.Cases.{words, AreKeys, IsBelow, value_of};

@@ -4,7 +4,7 @@ use crate::bodies::{push_diags, push_type};
 use crate::operators::{returned, taken};
 use crate::plain::note;
 use hack_decls::MapDecls;
-use hack_expr::{ExprOut, check_expr, is_of_first_half};
+use hack_expr::{ExprOut, check_expr};
 use hack_show::Out;
 use hack_tree::{Expr, Parameter, Stmt};
 use hack_types::{HackType, NameId, Names, Param, name_text};
@@ -39,10 +39,6 @@ fn show_checked(
     variables: &Variables,
     expr: &Expr,
 ) {
-    if !is_of_first_half(expr) {
-        out.word("no row");
-        return;
-    }
     let found = check_expr(alloc, setting.names, decls, setting.scope, variables, expr);
     match &found {
         Ok(found) => show_found(alloc, out, setting.names, variables, found),

@@ -79,7 +79,7 @@ fn show(
         Table::Below => below::show_last(alloc, out, units),
         Table::Solved => inferring::show_last(alloc, out, units),
         Table::Operators => operators::show_last(alloc, out, names, units),
-        Table::WrittenTypes | Table::Expressions => {
+        Table::WrittenTypes | Table::Expressions | Table::Uses | Table::Targets => {
             bodies::show_last(alloc, table, out, names, units)
         }
         Table::Different => types::different(alloc, out, units),

@@ -16,6 +16,8 @@ pub(crate) mod scripts;
 pub(crate) mod serve;
 pub(crate) mod shallow;
 pub(crate) mod streams;
+pub(crate) mod targets;
 pub(crate) mod types;
+pub(crate) mod uses;
 pub(crate) mod words;
 pub(crate) mod written;

@@ -49,6 +49,8 @@ pub(crate) enum Table {
     Operators,
     WrittenTypes,
     Expressions,
+    Uses,
+    Targets,
     Units,
     Machine,
     Served(usize),
@@ -56,7 +58,7 @@ pub(crate) enum Table {
     Statuses,
 }
 
-const ALL: [Table; 45] = [
+const ALL: [Table; 47] = [
     Table::Words,
     Table::Lists,
     Table::NoWords,
@@ -95,6 +97,8 @@ const ALL: [Table; 45] = [
     Table::Operators,
     Table::WrittenTypes,
     Table::Expressions,
+    Table::Uses,
+    Table::Targets,
     Table::Units,
     Table::Machine,
     Table::Served(1),
@@ -143,6 +147,8 @@ impl Table {
             Table::Operators => rows::operators::OPERATORS,
             Table::WrittenTypes => rows::written::WRITTEN,
             Table::Expressions => rows::expressions::EXPRESSIONS,
+            Table::Uses => rows::uses::USES,
+            Table::Targets => rows::targets::TARGETS,
             Table::Units => rows::first::UNITS,
             Table::Machine => rows::machine::RUNS,
             Table::Served(_) => rows::serve::SERVED,
@@ -188,7 +194,7 @@ impl Table {
 #[test]
 fn each_row_has_its_answer(rt: HostRuntime) -> Result<(), Fail> {
     let report = try_all(rt.alloc())?;
-    assert_eq!(rt; str::from_utf8(&report).unwrap_or("?"), "1480 rows");
+    assert_eq!(rt; str::from_utf8(&report).unwrap_or("?"), "2545 rows");
     Ok(())
 }
 

@@ -12,14 +12,13 @@ ghost use Rattle.hack_chains.specs.inside.Chaining.{ChainIn, first_operator};
 use crate::ends::split_last;
 use crate::from_left::{compared_at, from_left};
 use crate::from_right::rest_from_right;
-use crate::joins::coalesced;
 use crate::so_far::asked;
 use crate::steps::{step_branches, step_value};
 use hack_decls::{DeclStop, Decls};
 use hack_parts::{Reading, both_here, place_of};
 use hack_tree::{BinaryOperator, Expr, Operand};
 use hack_types::HackType;
-use hack_walk::{Branches, Setting, State};
+use hack_walk::{Branches, Setting, State, coalesced};
 use std::alloc::Global;
 
 /// Operands with operators between them, `??` grouped from the right and all others from the left (docs/language.md, Typing

@@ -7,12 +7,12 @@ ghost use Rattle.hack_rules.specs.Expressions.{meaning_of};
 ghost use Rattle.hack_walk.specs.Checks.{BranchesIn, VariablesIn, Walks, setting_of};
 ghost use Rattle.hack_chains.specs.inside.Rest.{other_on, parts_on};
 
-use crate::joins::{coalesced, exchange, rejoin, union_of_two};
+use crate::joins::{exchange, rejoin};
 use hack_decls::{DeclStop, Decls};
 use hack_parts::Reading;
 use hack_tree::Expr;
 use hack_types::HackType;
-use hack_walk::{Branches, Setting, State, Variables};
+use hack_walk::{Branches, Setting, State, Variables, coalesced, union_of_two};
 use std::alloc::Global;
 
 /// `c ? a : b`: each part is typed in its branch, the ends are joined, and the type is the union of both (docs/language.md, Typing

@@ -9,14 +9,13 @@ ghost use Rattle.hack_rules.specs.Walks.{each};
 ghost use Rattle.hack_walk.specs.Checks.{Walks, setting_of};
 ghost use Rattle.hack_chains.specs.inside.Rights.{TypedIn, combined, grouped, left_of, lefts_row, typed_by, value_of};
 
-use crate::joins::coalesced;
 use crate::typed::{Grouping, Typed};
 use hack_decls::{DeclStop, Decls};
 use hack_operators::{Operation, operate};
 use hack_parts::{Reading, place_of};
 use hack_tree::{Expr, Operand};
 use hack_types::{HackType, NoMemory, Place};
-use hack_walk::{Setting, State};
+use hack_walk::{Setting, State, coalesced};
 use sqlite_items::Items;
 use std::alloc::Global;
 

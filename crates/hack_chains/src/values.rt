@@ -8,13 +8,12 @@ ghost use Rattle.hack_rules.specs.Operators.{operation_of};
 ghost use Rattle.hack_walk.specs.Checks.{BranchesIn, Walks, setting_of};
 ghost use Rattle.hack_chains.specs.inside.Chaining.{branches_on, comparison, equality_of, outcome, outcome_branches, plain_outcome, turned, value_on};
 
-use crate::joins::coalesced;
 use hack_decls::{DeclStop, Decls};
 use hack_operators::{operate, operation_of};
 use hack_parts::{Reading, both_here};
 use hack_tree::{BinaryOperator, Expr};
 use hack_types::{HackType, NameId, Place};
-use hack_walk::{Branches, Setting, State, tested_branches};
+use hack_walk::{Branches, Setting, State, coalesced, tested_branches};
 use std::alloc::Global;
 
 /// The right side is typed, and then comes what the operator makes of both types (docs/language.md, Typing expressions, Operators).

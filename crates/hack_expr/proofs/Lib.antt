@@ -1,8 +1,9 @@
 pub mod Answering
+pub mod Behind
 pub mod Deeper
 pub mod Handed
 pub mod Here
-pub mod Kept
 pub mod Literals
 pub mod Signs
+pub mod Targeted
 pub mod Tied

@@ -1,22 +1,28 @@
 -- A check of the parts that a form of expression has is a check of the form.
-use Rattle.std.proofs.Common.{◌≡◌, ◌∙◌, ℕ, IsTrue, Result, Option, Some, None, List, All, map, refl, sym, ap, subst}
+use Rattle.std.proofs.Common.{◌≡◌, ◌∙◌, ◌≤◌, ℕ, IsTrue, Result, Option, Some, None, List, All, length, map, refl, sym, ap, subst}
 use Rattle.hack_decls.specs.DeclState.{DeclState, Symbols}
 use Rattle.hack_decls.specs.Names.{TypeIn}
 use Rattle.hack_decls.specs.declared.stop.DeclStop.{DeclStop}
-use Rattle.hack_parts.specs.ExprIn.{EntryIn, ExprIn, FieldIn, OperandIn, TestIn}
+use Rattle.hack_parts.specs.ExprIn.{EntryIn, ExprIn, FieldIn, MemberIn, OperandIn, ReferenceIn, SuffixIn, TestIn}
 use Rattle.hack_parts.specs.ExprMeanings as one
-use Rattle.hack_parts.specs.Forms.{given_of, joined_of, pair_of}
+use Rattle.hack_parts.specs.Forms.{given_of, joined_of, member_of, pair_of}
 use Rattle.hack_parts.specs.PartNames as names
 use Rattle.hack_parts.specs.Parts.{value_of, walk_by}
+use Rattle.hack_parts.specs.UseNames as uses
 use Rattle.hack_parts.specs.declared.reading.Reading.{Reading}
 use Rattle.hack_parts.specs.declared.reading.Reading.TheVariants as reading
 use Rattle.hack_rules.specs.Chains.{chain_value, conditional_row, not_branches, power_row, prefix_value, short_row}
 use Rattle.hack_rules.specs.Expressions.{meaning_of}
 use Rattle.hack_rules.specs.Meanings.{Branches, Meaning, plain_branches}
-use Rattle.hack_rules.specs.Targets.{look_up}
+use Rattle.hack_rules.specs.News.{new_row}
+use Rattle.hack_rules.specs.Targets.{assigned_by, look_up}
+use Rattle.hack_rules.specs.Uses.{call_row}
 use Rattle.hack_rules.specs.Values.{cast_row, constant_row, container_row, dict_row, literal_type, shape_row, test_branches, tested_row, this_row, variable_branches}
 use Rattle.hack_rules.specs.Walks.{Setting, State, Walk, pure}
+use Rattle.hack_rules.specs.WrittenTypes.{names_of}
+use Rattle.hack_tree.specs.declared.expression.AssignOperator.{AssignOperator}
 use Rattle.hack_tree.specs.declared.expression.CastType.{CastType}
+use Rattle.hack_tree.specs.declared.expression.ClassReference.{ClassReference}
 use Rattle.hack_tree.specs.declared.expression.Entry.{Entry}
 use Rattle.hack_tree.specs.declared.expression.Expr.{Expr}
 use Rattle.hack_tree.specs.declared.expression.Expr.TheVariants as e
@@ -25,13 +31,19 @@ use Rattle.hack_tree.specs.declared.expression.Literal.{Literal}
 use Rattle.hack_tree.specs.declared.expression.Operand.{Operand}
 use Rattle.hack_tree.specs.declared.expression.PrefixOperator.{PrefixOperator}
 use Rattle.hack_tree.specs.declared.expression.PrefixOperator.TheVariants as operator
+use Rattle.hack_tree.specs.declared.expression.ScopedMember.{ScopedMember}
+use Rattle.hack_tree.specs.declared.expression.Suffix.{Suffix}
 use Rattle.hack_tree.specs.declared.expression.TypeTest.{TypeTest}
 use Rattle.hack_tree.specs.declared.written_type.Container.{Container}
+use Rattle.hack_tree.specs.declared.written_type.WrittenType.{WrittenType}
 use Rattle.hack_types.specs.declared.hack_type.HackType.{HackType}
-use Rattle.hack_types.specs.declared.ids.Kind.TheVariants.{Const}
+use Rattle.hack_types.specs.declared.ids.Kind.TheVariants.{Const, Func}
 use Rattle.hack_types.specs.declared.place.Place.{Place}
 use Rattle.hack_walk.specs.Checks.{BranchesIn, Walks}
 use Rattle.hack_walk.specs.WalkLaws.{weaker}
+use Rattle.hack_written.specs.WrittenIn.{WrittenIn}
+use Rattle.hack_uses.specs.Aims.{behind as under}
+use Rattle.hack_expr.proofs.Behind.{left_of_scoped, no_postfix}
 
 -- what says the same in both readings
 in_both : (r : Reading) (m : Meaning) (walk : Walk HackType) → m.walk ≡ walk → m.left ≡ walk → walk_by r m ≡ walk
@@ -82,7 +94,7 @@ sign_says_nothing {at = at} operand s plain is same =
 
 module _ {Base Held : Type 0} {setting : Setting} {old new : DeclState Base Held} {before behind : State} where
   -- a check of what a form has is one of the whole
-  whole_of : {A : Type 0} {Names : Symbols → Type 0} {Gives : Symbols → A → Type 0} {walk : Walk A} {result : Result A DeclStop} (whole : Expr) (other : Walk A)
+  pub whole_of : {A : Type 0} {Names : Symbols → Type 0} {Gives : Symbols → A → Type 0} {walk : Walk A} {result : Result A DeclStop} (whole : Expr) (other : Walk A)
       → Walks walk setting old before result new behind Names Gives → other ≡ walk → ((symbols : Symbols) → ExprIn setting.scope symbols whole → Names symbols)
       → Walks other setting old before result new behind (λ symbols. ExprIn setting.scope symbols whole) Gives
   whole_of {Gives = Gives} {result = result} whole other check same parts =
@@ -206,6 +218,58 @@ module _ {Base Held : Type 0} {setting : Setting} {old new : DeclState Base Held
         (by_form r (shape_row (map given_of fields)) is (one.shape at fields) refl refl ∙ ap (λ (xs : List FieldValue). shape_row (map given_of xs)) (sym same))
         (λ symbols all. subst (All (FieldIn setting.scope symbols)) (sym same) (names.in_fields setting.scope symbols at fields (subst (ExprIn setting.scope symbols) is all)))
 
+    pub of_assign : {at : Place} {target x : Expr} {operator : AssignOperator} {value y : Expr} → whole ≡ e.Assign at target operator value → x ≡ target → y ≡ value
+        → Walks (assigned_by at operator (meaning_of x) (meaning_of y)) setting old before result new behind (λ symbols. ExprIn setting.scope symbols x × ExprIn setting.scope symbols y) TypeIn
+        → Walks (walk_by r (meaning_of whole)) setting old before result new behind (λ symbols. ExprIn setting.scope symbols whole) TypeIn
+    of_assign {at = at} {target = target} {operator = operator} {value = value} is one_part other_part check =
+        whole_of whole _ check
+        (by_form r (assigned_by at operator (meaning_of target) (meaning_of value)) is (one.assign at target operator value) refl refl
+        ∙ (λ i. assigned_by at operator (meaning_of (sym one_part i)) (meaning_of (sym other_part i))))
+        (λ symbols all. let parts = uses.in_assign setting.scope symbols at target operator value (subst (ExprIn setting.scope symbols) is all) in
+        (subst (ExprIn setting.scope symbols) (sym one_part) parts.0, subst (ExprIn setting.scope symbols) (sym other_part) parts.1))
+
+    pub of_postfix : {at : Place} {operand x : Expr} {suffixes xs : List Suffix} → whole ≡ e.Postfix at operand suffixes → x ≡ operand → xs ≡ suffixes
+        → Walks (walk_by r (under (meaning_of x) xs)) setting old before result new behind (λ symbols. ExprIn setting.scope symbols x × All (SuffixIn setting.scope symbols) xs) TypeIn
+        → Walks (walk_by r (meaning_of whole)) setting old before result new behind (λ symbols. ExprIn setting.scope symbols whole) TypeIn
+    of_postfix {at = at} {operand = operand} {suffixes = suffixes} is same more check =
+        whole_of whole _ check
+        (ap (λ (x : Expr). walk_by r (meaning_of x)) is ∙ ap (walk_by r) (one.postfix at operand suffixes)
+        ∙ (λ i. walk_by r (under (meaning_of (sym same i)) (sym more i))))
+        (λ symbols all. let parts = uses.in_postfix setting.scope symbols at operand suffixes (subst (ExprIn setting.scope symbols) is all) in
+        (subst (ExprIn setting.scope symbols) (sym same) parts.0, subst (All (SuffixIn setting.scope symbols)) (sym more) parts.1))
+
+    pub of_call : {at : Place} {name : ℕ} {arguments xs : List Expr} → whole ≡ e.Call at name arguments → xs ≡ arguments
+        → Walks (call_row at name (map meaning_of xs)) setting old before result new behind (λ symbols. IsTrue (symbols (record { kind = Func; name = name })) × All (ExprIn setting.scope symbols) xs) TypeIn
+        → Walks (walk_by r (meaning_of whole)) setting old before result new behind (λ symbols. ExprIn setting.scope symbols whole) TypeIn
+    of_call {at = at} {name = name} {arguments = arguments} is same check =
+        whole_of whole _ check
+        (by_form r (call_row at name (map meaning_of arguments)) is (one.call at name arguments) refl refl ∙ ap (λ (xs : List Expr). call_row at name (map meaning_of xs)) (sym same))
+        (λ symbols all. let parts = uses.in_call setting.scope symbols at name arguments (subst (ExprIn setting.scope symbols) is all) in
+        (parts.0, subst (All (ExprIn setting.scope symbols)) (sym same) parts.1))
+
+    pub of_scoped : {at : Place} {class c : ClassReference} {what m : ScopedMember} → whole ≡ e.Scoped at class what → c ≡ class → m ≡ what
+        → Walks (member_of m at c).walk setting old before result new behind (λ symbols. ReferenceIn symbols c × MemberIn setting.scope symbols m) TypeIn
+        → Walks (walk_by r (meaning_of whole)) setting old before result new behind (λ symbols. ExprIn setting.scope symbols whole) TypeIn
+    of_scoped {at = at} {class = class} {what = what} is of_class of_member check =
+        whole_of whole _ check
+        (by_form r (member_of what at class).walk is (one.scoped at class what) refl (left_of_scoped what at class)
+        ∙ (λ i. (member_of (sym of_member i) at (sym of_class i)).walk))
+        (λ symbols all. let parts = uses.in_scoped setting.scope symbols at class what (subst (ExprIn setting.scope symbols) is all) in
+        (subst (ReferenceIn symbols) (sym of_class) parts.0, subst (MemberIn setting.scope symbols) (sym of_member) parts.1))
+
+    pub of_new : {at class_at : Place} {class c : ClassReference} {types ts : List WrittenType} {arguments xs : List Expr} → whole ≡ e.New at class_at class types arguments → c ≡ class → ts ≡ types → xs ≡ arguments
+        → Walks (new_row at class_at c ts (map meaning_of xs)) setting old before result new behind (λ symbols. ReferenceIn symbols c × All (WrittenIn (names_of setting.scope) symbols) ts × All (ExprIn setting.scope symbols) xs) TypeIn
+        → Walks (walk_by r (meaning_of whole)) setting old before result new behind (λ symbols. ExprIn setting.scope symbols whole) TypeIn
+    of_new {at = at} {class_at = class_at} {class = class} {types = types} {arguments = arguments} is of_class of_types same check =
+        whole_of whole _ check
+        (by_form r (new_row at class_at class types (map meaning_of arguments)) is (one.new at class_at class types arguments) refl refl
+        ∙ (λ i. new_row at class_at (sym of_class i) (sym of_types i) (map meaning_of (sym same i))))
+        (λ symbols all. let parts = uses.in_new setting.scope symbols at class_at class types arguments (subst (ExprIn setting.scope symbols) is all) in (
+          subst (ReferenceIn symbols) (sym of_class) parts.0,
+          subst (All (WrittenIn (names_of setting.scope) symbols)) (sym of_types) parts.1,
+          subst (All (ExprIn setting.scope symbols)) (sym same) parts.2,
+        ))
+
   pub of_plain : {result : Result Branches DeclStop} (whole : Expr) → (meaning_of whole).branches ≡ plain_branches (value_of whole)
       → Walks (plain_branches (value_of whole)) setting old before result new behind (λ symbols. ExprIn setting.scope symbols whole) BranchesIn
       → Walks (meaning_of whole).branches setting old before result new behind (λ symbols. ExprIn setting.scope symbols whole) BranchesIn
@@ -257,3 +321,11 @@ module _ {Base Held : Type 0} {setting : Setting} {old new : DeclState Base Held
         → Walks (meaning_of whole).branches setting old before result new behind (λ symbols. ExprIn setting.scope symbols whole) BranchesIn
     of_variable_branches {at = at} {name = name} is check =
         whole_of whole _ check (ap (λ (x : Expr). (meaning_of x).branches) is ∙ ap (λ (m : Meaning). m.branches) (one.variable at name)) (λ symbols all. tt)
+
+    pub of_no_postfix_branches : {at : Place} {operand x : Expr} (suffixes : List Suffix) → whole ≡ e.Postfix at operand suffixes → x ≡ operand → length suffixes ≤ 0
+        → Walks (meaning_of x).branches setting old before result new behind (λ symbols. ExprIn setting.scope symbols x) BranchesIn
+        → Walks (meaning_of whole).branches setting old before result new behind (λ symbols. ExprIn setting.scope symbols whole) BranchesIn
+    of_no_postfix_branches {at = at} {operand = operand} suffixes is same none check =
+        whole_of whole _ check
+        (ap (λ (x : Expr). (meaning_of x).branches) is ∙ ap (λ (m : Meaning). m.branches) (no_postfix at operand suffixes none) ∙ ap (λ (x : Expr). (meaning_of x).branches) (sym same))
+        (λ symbols all. subst (ExprIn setting.scope symbols) (sym same) (uses.in_postfix setting.scope symbols at operand suffixes (subst (ExprIn setting.scope symbols) is all)).0)

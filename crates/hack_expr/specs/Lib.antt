@@ -1,2 +1,2 @@
-pub mod FirstHalf
 pub mod Judged
+pub mod inside

@@ -1,7 +1,6 @@
 // The check of an expression.
 ghost use Rattle.hack_decls.specs.Asks.{Asks};
 ghost use Rattle.hack_decls.specs.Names.{TypeIn};
-ghost use Rattle.hack_expr.specs.FirstHalf.{IsOfFirstHalf};
 ghost use Rattle.hack_expr.specs.Judged.{GivenIn, IsJudged, OutIn};
 ghost use Rattle.hack_parts.specs.ExprIn.{ExprIn};
 ghost use Rattle.hack_rules.specs.Expressions.{judged};
@@ -37,7 +36,6 @@ pub fn check_expr<D: Decls>(
     env: &Variables,
     e: &Expr,
 ) -> Result<ExprOut, DeclStop>
-    requires { IsOfFirstHalf e.now }
     ensures { Asks (D.state decls.old) result (D.state decls.new)
         (IsJudged (record { names = names.now; scope = scope.now }) env.now e.now)
         (λ symbols. GivenIn symbols scope.now env.now e.now) OutIn }
@@ -60,7 +58,6 @@ pub fn check<D: Decls>(
     state: &mut State,
     e: &Expr,
 ) -> Result<HackType, DeclStop>
-    requires { IsOfFirstHalf e.now }
     ensures { Walks (judged e.now) (setting_of setting.now)
         (D.state decls.old) state.old result (D.state decls.new) state.new
         (λ symbols. ExprIn setting.now.scope.now symbols e.now) TypeIn }

@@ -2,11 +2,10 @@
 #![tactic(auto)]
 
 mod checks;
-mod first_half;
 mod prefixes;
 mod rows;
+mod targets;
 mod tie;
 
 pub use checks::{ExprOut, check, check_expr};
-pub use first_half::is_of_first_half;
-pub use tie::branches_of;
+pub use tie::{branches_of, target_of};

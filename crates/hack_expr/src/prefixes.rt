@@ -1,19 +1,23 @@
 // Operators before their operand.
-ghost use Rattle.std.specs.Prelude.{IsTrue};
+ghost use Rattle.std.specs.Prelude.{◌≡◌, option_map};
 ghost use Rattle.hack_decls.specs.Names.{TypeIn};
-ghost use Rattle.hack_expr.specs.FirstHalf.{keeps_its_operand};
+ghost use Rattle.hack_expr.specs.inside.Counting.{counting};
+ghost use Rattle.hack_operators.specs.Seen.{operation_seen};
 ghost use Rattle.hack_parts.specs.ExprIn.{ExprIn};
 ghost use Rattle.hack_parts.specs.Parts.{Values};
 ghost use Rattle.hack_rules.specs.Chains.{prefix_value};
 ghost use Rattle.hack_rules.specs.Expressions.{meaning_of};
+ghost use Rattle.hack_uses.specs.Aims.{Targets};
 ghost use Rattle.hack_walk.specs.Checks.{Walks, setting_of};
 
 use hack_chains::{not, signed};
 use hack_decls::{DeclStop, Decls};
-use hack_operators::sign_before;
+use hack_operators::{Operation, sign_before};
 use hack_parts::Reading;
+use hack_targets::Target;
 use hack_tree::{Expr, PrefixOperator};
 use hack_types::{HackType, Place};
+use hack_uses::increased;
 use hack_walk::{Setting, State};
 use std::alloc::Global;
 
@@ -22,8 +26,10 @@ use std::alloc::Global;
 pub(crate) fn prefixed<
     D: Decls,
     F: Fn(Global, &Setting<'_>, &mut D, &mut State, &Expr, Reading) -> Result<HackType, DeclStop>,
+    T: Fn(Global, &Setting<'_>, &mut D, &mut State, &Expr, Reading) -> Result<Target, DeclStop>,
 >(
     value: &F,
+    target: &T,
     alloc: Global,
     setting: &Setting<'_>,
     decls: &mut D,
@@ -32,8 +38,8 @@ pub(crate) fn prefixed<
     operator: PrefixOperator,
     operand: &Expr,
 ) -> Result<HackType, DeclStop>
-    requires operator { IsTrue (keeps_its_operand operator) }
-    requires operand { Values D.state operand.now (F.pre value.now) (F.post value.now) }
+    requires value { Values D.state operand.now (F.pre value.now) (F.post value.now) }
+    requires target { Targets D.state operand.now (T.pre target.now) (T.post target.now) }
     ensures { Walks (prefix_value at operator (meaning_of operand.now)).walk
         (setting_of setting.now)
         (D.state decls.old) state.old result (D.state decls.new) state.new
@@ -41,6 +47,25 @@ pub(crate) fn prefixed<
 {
     match sign_before(operator) {
         Some(sign) => signed(value, alloc, setting, decls, state, at, sign, operand),
-        None => not(value, alloc, setting, decls, state, operand),
+        None => match counting(operator) {
+            Some(operation) => increased(
+                target, alloc, setting, decls, state, at, operation, operand,
+            ),
+            None => not(value, alloc, setting, decls, state, operand),
+        },
+    }
+}
+
+// What `++` and `--` do with an int.
+fn counting(operator: PrefixOperator) -> Option<Operation>
+    ensures { option_map operation_seen result ≡ counting operator }
+{
+    match operator {
+        PrefixOperator::Increment => Some(Operation::Add),
+        PrefixOperator::Decrement => Some(Operation::Subtract),
+        PrefixOperator::Not
+        | PrefixOperator::Minus
+        | PrefixOperator::Plus
+        | PrefixOperator::BitNot => None,
     }
 }

@@ -17,7 +17,8 @@ use Rattle.hack_decls.specs.declared.folded.Folded.{Folded}
 use Rattle.hack_decls.specs.declared.folded.Folded.TheVariants as folded
 use Rattle.hack_sub.specs.Knowing.{ancestor_by, is_bad, is_trait}
 use Rattle.hack_infer.proofs.PutLaws.{in_put_each, in_put_in}
-use Rattle.hack_infer.specs.inside.Calls.{SightIn, given_in, looked_at, next_of, sight_in}
+use Rattle.hack_infer.specs.inside.Calls.{given_in, looked_at, next_of, sight_in}
+use Rattle.hack_infer.specs.Named.{SightIn}
 use Rattle.hack_infer.specs.Seeing.{put_in, sight_by}
 use Rattle.hack_infer.specs.declared.sight.Sight.{Sight}
 use Rattle.hack_infer.specs.declared.sight.Sight.TheVariants as sight

@@ -6,6 +6,8 @@ use Rattle.hack_types.specs.declared.hack_type.HackType.{HackType}
 use Rattle.hack_decls.specs.DeclState.{Symbols}
 use Rattle.hack_decls.specs.Names.{class_symbol, TypeIn}
 use Rattle.hack_sub.specs.Parts.{keyed_container}
+use Rattle.hack_infer.specs.declared.sight.Sight.{Sight}
+use Rattle.hack_infer.specs.declared.sight.Sight.TheVariants as sight
 
 -- what these types name, and `KeyedContainer`, is among these symbols
 pub record PairsIn (symbols : Symbols) (Ws Gs : List HackType) : Type 0 where
@@ -20,3 +22,8 @@ lists_of lists = map (λ types. types.items) lists
 -- each type in them
 abbrev pub ListsIn : Symbols → List (List HackType) → Type 0
 ListsIn symbols found = All (λ types. All (TypeIn symbols) types) found
+
+-- what an alias stands for names only these symbols
+abbrev pub SightIn : Symbols → Sight → Type 0
+SightIn symbols (sight.Alias next) = TypeIn symbols next
+SightIn symbols _ = Unit {0}

@@ -3,7 +3,8 @@ ghost use Rattle.std.specs.Prelude.{◌≡◌, ◌==◌, All, IsTrue, IfOk, IfSo
 ghost use Rattle.hack_decls.specs.Asks.{Asks};
 ghost use Rattle.hack_decls.specs.Names.{TypeIn, class_symbol};
 ghost use Rattle.hack_sub.specs.Knowing.{is_trait};
-ghost use Rattle.hack_infer.specs.inside.Calls.{alias_sight, class_sight, enum_sight, given_in, looked_at, next_of, sight_in, SightIn};
+ghost use Rattle.hack_infer.specs.inside.Calls.{alias_sight, class_sight, enum_sight, given_in, looked_at, next_of, sight_in};
+ghost use Rattle.hack_infer.specs.Named.{SightIn};
 ghost use Rattle.hack_infer.specs.Seeing.{ancestor_given, opened, put_in, sight_of};
 
 use crate::sight::Sight;
@@ -16,7 +17,7 @@ use sqlite_items::Items;
 use std::alloc::Global;
 
 /// How often aliases are looked through (docs/language.md, Typing expressions, Heads).
-pub(crate) const MOST_STEPS: u32 = 16;
+pub const MOST_STEPS: u32 = 16;
 
 fn class_symbol(name: NameId) -> SymbolId
     ensures { result ≡ class_symbol name }
@@ -27,12 +28,9 @@ fn class_symbol(name: NameId) -> SymbolId
     }
 }
 
-/// Whether a type is an alias, bad, or neither.
-pub(crate) fn sight_of<D: Decls>(
-    alloc: Global,
-    decls: &mut D,
-    ty: &HackType,
-) -> Result<Sight, DeclStop>
+/// Whether a type is an alias, bad, or neither (docs/language.md, Typing expressions, Heads). `EdgesFull` says that a lookup's note was
+/// refused, and `NoMemory` that memory ran out; what was noted before stays noted.
+pub fn sight_of<D: Decls>(alloc: Global, decls: &mut D, ty: &HackType) -> Result<Sight, DeclStop>
     ensures { Asks (D.state decls.old) result (D.state decls.new)
         (λ map answer. answer ≡ sight_of map ty.now) (λ symbols. TypeIn symbols ty.now) SightIn }
 {
@@ -160,8 +158,9 @@ fn next_of(sight: Sight) -> Option<HackType>
     }
 }
 
-/// The arguments that a class with these gives its ancestor of this name.
-pub(crate) fn ancestor_given<D: Decls>(
+/// The arguments that a class with these gives its ancestor of this name, where it stands below one (docs/language.md, Typing
+/// expressions, Heads). The errors are as those of `sight_of`.
+pub fn ancestor_given<D: Decls>(
     alloc: Global,
     decls: &mut D,
     class: NameId,

@@ -1,5 +1,5 @@
 // The declarations of all files by their symbols.
-ghost use Rattle.std.specs.Prelude.{◌≡◌, ℕ, List, Some, None, IfOk, OnOk, OnErr, IfSome, IfNone, false, length};
+ghost use Rattle.std.specs.Prelude.{◌≡◌, Some, None, IfOk, OnOk, OnErr, IfSome, IfNone, false, length};
 ghost use Rattle.std.specs.BTreeMap as tree;
 ghost use Rattle.hack_names.specs.Inside.{declared_order, spot_order, from_symbol, AreNoted, IsSet, IsSame, IsFirst, HasNone, HasNoTwo, HasOnlyLosers, HasAllLosers, HasLosersOf, KeepsSpots, KeepsNoted, IsNoted, HasFirst, HasOnly, HasNothing, KeepsOtherFiles};
 

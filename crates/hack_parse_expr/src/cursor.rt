@@ -1,5 +1,5 @@
 // A cursor over the tokens of a file.
-ghost use Rattle.std.specs.Prelude.{◌≡◌, ◌<◌, ◌≤◌, length, IfSome, Some, None, [], ◌∷◌};
+ghost use Rattle.std.specs.Prelude.{◌≡◌, ◌<◌, length, Some, None, []};
 ghost use Rattle.hack_codes.specs.Numbers.{number};
 ghost use Rattle.hack_parse_expr.specs.Input as input;
 ghost use Rattle.hack_parse_expr.specs.Kinds as kinds;

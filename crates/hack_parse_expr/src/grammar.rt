@@ -1,6 +1,5 @@
 // The rows of an expression take the parser of what counts as nesting in them as a parameter, so that each is proved by
 // itself.
-ghost use Rattle.std.specs.Prelude.{◌≡◌};
 ghost use Rattle.hack_parse_expr.specs.Expressions as spec;
 ghost use Rattle.hack_parse_expr.specs.Nesting.{Nests};
 ghost use Rattle.hack_parse_expr.specs.Parsers.{Reads};

@@ -1,5 +1,4 @@
 // Lists in brackets (docs/language.md, Expressions).
-ghost use Rattle.std.specs.Prelude.{◌≡◌};
 ghost use Rattle.hack_parse_expr.specs.Expressions as spec;
 ghost use Rattle.hack_parse_expr.specs.Nesting.{Nests};
 ghost use Rattle.hack_parse_expr.specs.Parsers.{Reads};

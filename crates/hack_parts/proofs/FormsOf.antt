@@ -1,4 +1,4 @@
--- Which expressions are a variable or `null`.
+-- Which expressions are a variable, `null` or a key string.
 use Rattle.std.proofs.Common.{◌≡◌, ◌∙◌, ◌<◌, ◌≤◌, arith, Bool, true, false, Option, Some, None, List, [], ◌∷◌, length, map, refl, sym, ap, subst}
 use Rattle.std.specs.List.{fold}
 use Rattle.hack_tree.specs.declared.expression.BinaryOperator.{BinaryOperator}
@@ -23,59 +23,59 @@ use Rattle.hack_parts.specs.ExprMeanings as one
 use Rattle.hack_parts.specs.Forms.{IsForm, joined_of, suffix_of}
 use Rattle.hack_parts.specs.declared.form.Form.{Form}
 
--- neither a variable nor `null`
+-- neither a variable nor `null` nor a key string
 abbrev pub other : Form
-other = record { subject = None; is_null = false }
+other = record { subject = None; is_null = false; key = None }
 
 abbrev pub IsOther : Meaning → Type 0
 IsOther = IsForm other
 
 -- an expression of which no row asks more than its type
-abbrev pub told : {m : Meaning} → None ≡ m.subject → false ≡ m.is_null → IsOther m
-told one two = record { subject = one; is_null = two }
+abbrev pub told : {m : Meaning} → None ≡ m.subject → false ≡ m.is_null → None ≡ m.key → IsOther m
+told one two three = record { subject = one; is_null = two; key = three }
 
 pub from : {form : Form} {m n : Meaning} → m ≡ n → IsForm form n → IsForm form m
 from {form = form} is here = subst (IsForm form) (sym is) here
 
 pub of_assign : (at : Place) (target : Expr) (operator : AssignOperator) (value : Expr) → IsOther (meaning_of (e.Assign at target operator value))
-of_assign at target operator value = from (one.assign at target operator value) (told refl refl)
+of_assign at target operator value = from (one.assign at target operator value) (told refl refl refl)
 
 pub of_conditional : (at : Place) (condition : Expr) (middle : Option Expr) (other_part : Expr) → IsOther (meaning_of (e.Conditional at condition middle other_part))
-of_conditional at condition None other_part = from (one.short at condition other_part) (told refl refl)
-of_conditional at condition (Some middle) other_part = from (one.conditional at condition middle other_part) (told refl refl)
+of_conditional at condition None other_part = from (one.short at condition other_part) (told refl refl refl)
+of_conditional at condition (Some middle) other_part = from (one.conditional at condition middle other_part) (told refl refl refl)
 
 pub of_prefix : (at : Place) (operator : PrefixOperator) (operand : Expr) → IsOther (meaning_of (e.Prefix at operator operand))
-of_prefix at prefix.Not operand = from (one.prefix at prefix.Not operand) (told refl refl)
-of_prefix at prefix.Minus operand = from (one.prefix at prefix.Minus operand) (told refl refl)
-of_prefix at prefix.Plus operand = from (one.prefix at prefix.Plus operand) (told refl refl)
-of_prefix at prefix.BitNot operand = from (one.prefix at prefix.BitNot operand) (told refl refl)
-of_prefix at prefix.Increment operand = from (one.prefix at prefix.Increment operand) (told refl refl)
-of_prefix at prefix.Decrement operand = from (one.prefix at prefix.Decrement operand) (told refl refl)
+of_prefix at prefix.Not operand = from (one.prefix at prefix.Not operand) (told refl refl refl)
+of_prefix at prefix.Minus operand = from (one.prefix at prefix.Minus operand) (told refl refl refl)
+of_prefix at prefix.Plus operand = from (one.prefix at prefix.Plus operand) (told refl refl refl)
+of_prefix at prefix.BitNot operand = from (one.prefix at prefix.BitNot operand) (told refl refl refl)
+of_prefix at prefix.Increment operand = from (one.prefix at prefix.Increment operand) (told refl refl refl)
+of_prefix at prefix.Decrement operand = from (one.prefix at prefix.Decrement operand) (told refl refl refl)
 
 -- ---- chains
 
 between : (operator : BinaryOperator) (left right : Meaning) → IsOther (binary_value operator left right)
-between binary.Coalesce left right = told refl refl
-between binary.Or left right = told refl refl
-between binary.And left right = told refl refl
-between binary.BitOr left right = told refl refl
-between binary.BitXor left right = told refl refl
-between binary.BitAnd left right = told refl refl
-between binary.Equal left right = told refl refl
-between binary.NotEqual left right = told refl refl
-between binary.Identical left right = told refl refl
-between binary.NotIdentical left right = told refl refl
-between binary.Less left right = told refl refl
-between binary.LessEqual left right = told refl refl
-between binary.Greater left right = told refl refl
-between binary.GreaterEqual left right = told refl refl
-between binary.Spaceship left right = told refl refl
-between binary.Add left right = told refl refl
-between binary.Subtract left right = told refl refl
-between binary.Concat left right = told refl refl
-between binary.Multiply left right = told refl refl
-between binary.Divide left right = told refl refl
-between binary.Remainder left right = told refl refl
+between binary.Coalesce left right = told refl refl refl
+between binary.Or left right = told refl refl refl
+between binary.And left right = told refl refl refl
+between binary.BitOr left right = told refl refl refl
+between binary.BitXor left right = told refl refl refl
+between binary.BitAnd left right = told refl refl refl
+between binary.Equal left right = told refl refl refl
+between binary.NotEqual left right = told refl refl refl
+between binary.Identical left right = told refl refl refl
+between binary.NotIdentical left right = told refl refl refl
+between binary.Less left right = told refl refl refl
+between binary.LessEqual left right = told refl refl refl
+between binary.Greater left right = told refl refl refl
+between binary.GreaterEqual left right = told refl refl refl
+between binary.Spaceship left right = told refl refl refl
+between binary.Add left right = told refl refl refl
+between binary.Subtract left right = told refl refl refl
+between binary.Concat left right = told refl refl refl
+between binary.Multiply left right = told refl refl refl
+between binary.Divide left right = told refl refl refl
+between binary.Remainder left right = told refl refl refl
 
 left_other : (first : Meaning) (others : List Joined) → IsOther first → IsOther (from_left first others)
 unfolding from_left
@@ -85,7 +85,7 @@ left_other first (next ∷ others) is = left_other (binary_value next.operator f
 -- behind at least one operator
 chained : (right : Bool) (first : Meaning) (next : Joined) (others : List Joined) → IsOther (chain_by right first (next ∷ others))
 unfolding from_left from_right
-chained true first next others = told refl refl
+chained true first next others = told refl refl refl
 chained false first next others = left_other (binary_value next.operator first next.operand) others (between next.operator first next.operand)
 
 pub of_chain : (at : Place) (first : Expr) (others : List Operand) → 0 < length others → IsOther (meaning_of (e.Chain at first others))
@@ -103,12 +103,12 @@ of_no_chain at first (next ∷ others) none is = absurd (omega (arith, none))
 
 suffix_other : (layer : Suffix-F Meaning ScopedMeaning SuffixMeaning Pair Given Joined) (base : Meaning) → IsOther (suffix_by layer base)
 unfolding suffix_by
-suffix_other (Suffix-F.Index None) base = told refl refl
-suffix_other (Suffix-F.Index (Some index)) base = told refl refl
-suffix_other (Suffix-F.Member null_safe name None) base = told refl refl
-suffix_other (Suffix-F.Member null_safe name (Some arguments)) base = told refl refl
-suffix_other Suffix-F.Increment base = told refl refl
-suffix_other Suffix-F.Decrement base = told refl refl
+suffix_other (Suffix-F.Index None) base = told refl refl refl
+suffix_other (Suffix-F.Index (Some index)) base = told refl refl refl
+suffix_other (Suffix-F.Member null_safe name None) base = told refl refl refl
+suffix_other (Suffix-F.Member null_safe name (Some arguments)) base = told refl refl refl
+suffix_other Suffix-F.Increment base = told refl refl refl
+suffix_other Suffix-F.Decrement base = told refl refl refl
 
 one_suffix : (suffix : Suffix) (base : Meaning) → IsOther (suffix_of suffix base)
 one_suffix suffix base = subst (λ (f : SuffixMeaning). IsOther (f base)) (sym (fold_out-Suffix Meaning ScopedMeaning SuffixMeaning Pair Given Joined expression_by scoped_by suffix_by entry_by field_by operand_by suffix)) (suffix_other _ base)
@@ -134,9 +134,9 @@ of_no_postfix at operand (suffix ∷ suffixes) none is = absurd (omega (arith, n
 
 member_other : (layer : ScopedMember-F Meaning ScopedMeaning SuffixMeaning Pair Given Joined) (at : Place) (class : ClassReference) → IsOther (scoped_by layer at class)
 unfolding scoped_by
-member_other (ScopedMember-F.Property name) at class = told refl refl
-member_other (ScopedMember-F.Word name None) at class = told refl refl
-member_other (ScopedMember-F.Word name (Some arguments)) at class = told refl refl
+member_other (ScopedMember-F.Property name) at class = told refl refl refl
+member_other (ScopedMember-F.Word name None) at class = told refl refl refl
+member_other (ScopedMember-F.Word name (Some arguments)) at class = told refl refl refl
 
 pub of_scoped : (at : Place) (class : ClassReference) (member : ScopedMember) → IsOther (meaning_of (e.Scoped at class member))
 of_scoped at class member =

@@ -1,14 +1,16 @@
 -- The symbols that an expression names; in the types that it tests a type parameter of the scope names none (docs/language.md, Typing expressions).
-use Rattle.std.specs.Prelude.{ℕ, Option, Some, None, List, [], ◌∷◌, ◌++◌, All, IsTrue}
+use Rattle.std.specs.Prelude.{Option, Some, None, List, [], ◌∷◌, ◌++◌, All, IsTrue}
 use Rattle.std.specs.List.{flat_map}
 use Rattle.hack_tree.specs.declared.expression.ClassReference.{ClassReference}
 use Rattle.hack_tree.specs.declared.expression.ClassReference.TheVariants as reference
 use Rattle.hack_tree.specs.declared.expression.Expr.{Expr}
 use Rattle.hack_tree.specs.declared.expression.Expr.TheOpen.{Expr-F, ScopedMember-F, Suffix-F, Entry-F, FieldValue-F, Operand-F}
-use Rattle.hack_tree.specs.declared.expression.Expr.TheFolds.{fold-Expr, fold-Entry, fold-FieldValue, fold-Operand}
+use Rattle.hack_tree.specs.declared.expression.Expr.TheFolds.{fold-Expr, fold-ScopedMember, fold-Suffix, fold-Entry, fold-FieldValue, fold-Operand}
 use Rattle.hack_tree.specs.declared.expression.Entry.{Entry}
 use Rattle.hack_tree.specs.declared.expression.FieldValue.{FieldValue}
 use Rattle.hack_tree.specs.declared.expression.Operand.{Operand}
+use Rattle.hack_tree.specs.declared.expression.ScopedMember.{ScopedMember}
+use Rattle.hack_tree.specs.declared.expression.Suffix.{Suffix}
 use Rattle.hack_tree.specs.declared.expression.TypeTest.{TypeTest}
 use Rattle.hack_types.specs.declared.ids.Kind.TheVariants.{Const, Func}
 use Rattle.hack_types.specs.declared.ids.SymbolId.{SymbolId}
@@ -95,6 +97,14 @@ abbrev pub symbols_of : Scope → Expr → Mentioned
 symbols_of scope =
     fold-Expr Mentioned Mentioned Mentioned Mentioned Mentioned Mentioned (symbols_by (names_of scope)) member_symbols_by suffix_symbols_by entry_symbols_by field_symbols_by operand_symbols_by
 
+abbrev pub member_symbols_of : Scope → ScopedMember → Mentioned
+member_symbols_of scope =
+    fold-ScopedMember Mentioned Mentioned Mentioned Mentioned Mentioned Mentioned (symbols_by (names_of scope)) member_symbols_by suffix_symbols_by entry_symbols_by field_symbols_by operand_symbols_by
+
+abbrev pub suffix_symbols_of : Scope → Suffix → Mentioned
+suffix_symbols_of scope =
+    fold-Suffix Mentioned Mentioned Mentioned Mentioned Mentioned Mentioned (symbols_by (names_of scope)) member_symbols_by suffix_symbols_by entry_symbols_by field_symbols_by operand_symbols_by
+
 abbrev pub entry_symbols_of : Scope → Entry → Mentioned
 entry_symbols_of scope =
     fold-Entry Mentioned Mentioned Mentioned Mentioned Mentioned Mentioned (symbols_by (names_of scope)) member_symbols_by suffix_symbols_by entry_symbols_by field_symbols_by operand_symbols_by
@@ -110,6 +120,18 @@ operand_symbols_of scope =
 -- all that an expression names is among these symbols
 unfoldable pub ExprIn : Scope → Symbols → Expr → Type 0
 ExprIn scope symbols e = All (λ s. IsTrue (symbols s)) (symbols_of scope e)
+
+-- the same of what stands before `::` or behind `new`
+abbrev pub ReferenceIn : Symbols → ClassReference → Type 0
+ReferenceIn symbols class = All (λ s. IsTrue (symbols s)) (of_reference class)
+
+-- the same of what stands behind `::`
+unfoldable pub MemberIn : Scope → Symbols → ScopedMember → Type 0
+MemberIn scope symbols member = All (λ s. IsTrue (symbols s)) (member_symbols_of scope member)
+
+-- the same of what stands behind an operand
+unfoldable pub SuffixIn : Scope → Symbols → Suffix → Type 0
+SuffixIn scope symbols suffix = All (λ s. IsTrue (symbols s)) (suffix_symbols_of scope suffix)
 
 -- the same of an entry of a dict
 unfoldable pub EntryIn : Scope → Symbols → Entry → Type 0

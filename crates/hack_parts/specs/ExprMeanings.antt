@@ -1,20 +1,22 @@
 -- What the judgement makes of each form of expression, by the meanings of its parts.
-use Rattle.std.proofs.Common.{◌≡◌, ◌∙◌, ℕ, Some, None, List, map, sym, ap}
+use Rattle.std.proofs.Common.{◌≡◌, ◌∙◌, ℕ, Bool, Some, None, List, [], map, sym, ap}
 use Rattle.std.specs.List.{fold}
 use Rattle.hack_tree.specs.declared.expression.AssignOperator.{AssignOperator}
 use Rattle.hack_tree.specs.declared.expression.CastType.{CastType}
 use Rattle.hack_tree.specs.declared.expression.ClassReference.{ClassReference}
 use Rattle.hack_tree.specs.declared.expression.Entry.{Entry}
 use Rattle.hack_tree.specs.declared.expression.Expr.{Expr}
-use Rattle.hack_tree.specs.declared.expression.Expr.TheFolds.{fold-ScopedMember, fold-Suffix, fold-Entry, fold-FieldValue, fold-Operand, fold-roll-Expr, fold_out-Entry, fold_out-FieldValue, fold_out-Operand}
-use Rattle.hack_tree.specs.declared.expression.Expr.TheOpen.{Expr-F}
+use Rattle.hack_tree.specs.declared.expression.Expr.TheFolds.{fold-roll-Expr, fold-roll-ScopedMember, fold-roll-Suffix, fold_out-Entry, fold_out-FieldValue, fold_out-Operand}
+use Rattle.hack_tree.specs.declared.expression.Expr.TheOpen.{Expr-F, ScopedMember-F, Suffix-F}
 use Rattle.hack_tree.specs.declared.expression.Expr.TheVariants as e
 use Rattle.hack_tree.specs.declared.expression.FieldValue.{FieldValue}
 use Rattle.hack_tree.specs.declared.expression.Literal.{Literal}
 use Rattle.hack_tree.specs.declared.expression.Operand.{Operand}
 use Rattle.hack_tree.specs.declared.expression.PrefixOperator.{PrefixOperator}
 use Rattle.hack_tree.specs.declared.expression.ScopedMember.{ScopedMember}
+use Rattle.hack_tree.specs.declared.expression.ScopedMember.TheVariants as member
 use Rattle.hack_tree.specs.declared.expression.Suffix.{Suffix}
+use Rattle.hack_tree.specs.declared.expression.Suffix.TheVariants as suffix
 use Rattle.hack_tree.specs.declared.expression.TypeTest.{TypeTest}
 use Rattle.hack_tree.specs.declared.written_type.Container.{Container}
 use Rattle.hack_tree.specs.declared.written_type.WrittenType.{WrittenType}
@@ -23,8 +25,9 @@ use Rattle.hack_rules.specs.Chains.{Joined, chain_value, conditional_value, powe
 use Rattle.hack_rules.specs.Expressions.{ScopedMeaning, SuffixMeaning, entry_by, expression_by, field_by, meaning_of, operand_by, scoped_by, suffix_by}
 use Rattle.hack_rules.specs.Meanings.{Meaning}
 use Rattle.hack_rules.specs.News.{new_value}
-use Rattle.hack_rules.specs.Targets.{assignment}
-use Rattle.hack_rules.specs.Uses.{call_value}
+use Rattle.hack_rules.specs.Operators.{add, subtract}
+use Rattle.hack_rules.specs.Targets.{assignment, increment as increment_value}
+use Rattle.hack_rules.specs.Uses.{call_value, index_value, member_value, property_value, static_property, word_value}
 use Rattle.hack_rules.specs.Values.{Given, Pair, bracketed as in_brackets, cast_value, constant_value, container_value, dict_value, literal_value, shape_value, test_value, this_value, variable_value}
 use Rattle.hack_parts.specs.Forms.{given_of, joined_of, member_of, pair_of, suffix_of}
 
@@ -119,3 +122,41 @@ given field = fold_out-FieldValue Meaning ScopedMeaning SuffixMeaning Pair Given
 
 pub joined : (operand : Operand) → joined_of operand ≡ record { operator = operand.operator; operand = meaning_of operand.operand }
 joined operand = fold_out-Operand Meaning ScopedMeaning SuffixMeaning Pair Given Joined expression_by scoped_by suffix_by entry_by field_by operand_by operand
+
+-- what stands behind an operand
+pub index_none : suffix_of (suffix.Index None) ≡ (λ base. index_value base None)
+unfolding suffix_by
+index_none = ap suffix_of (sym (suffix.rolls-Index None)) ∙ fold-roll-Suffix Meaning ScopedMeaning SuffixMeaning Pair Given Joined expression_by scoped_by suffix_by entry_by field_by operand_by (Suffix-F.Index None)
+
+pub index_some : (index : Expr) → suffix_of (suffix.Index (Some index)) ≡ (λ base. index_value base (Some (meaning_of index)))
+unfolding suffix_by
+index_some index = ap suffix_of (sym (suffix.rolls-Index (Some index))) ∙ fold-roll-Suffix Meaning ScopedMeaning SuffixMeaning Pair Given Joined expression_by scoped_by suffix_by entry_by field_by operand_by (Suffix-F.Index (Some index))
+
+pub member_none : (null_safe : Bool) (name : ℕ) → suffix_of (suffix.Member null_safe name None) ≡ (λ base. member_value base null_safe name None)
+unfolding suffix_by
+member_none null_safe name = ap suffix_of (sym (suffix.rolls-Member null_safe name None)) ∙ fold-roll-Suffix Meaning ScopedMeaning SuffixMeaning Pair Given Joined expression_by scoped_by suffix_by entry_by field_by operand_by (Suffix-F.Member null_safe name None)
+
+pub member_some : (null_safe : Bool) (name : ℕ) (arguments : List Expr) → suffix_of (suffix.Member null_safe name (Some arguments)) ≡ (λ base. member_value base null_safe name (Some (map meaning_of arguments)))
+unfolding suffix_by
+member_some null_safe name arguments = ap suffix_of (sym (suffix.rolls-Member null_safe name (Some arguments))) ∙ fold-roll-Suffix Meaning ScopedMeaning SuffixMeaning Pair Given Joined expression_by scoped_by suffix_by entry_by field_by operand_by (Suffix-F.Member null_safe name (Some arguments))
+
+pub increment : suffix_of suffix.Increment ≡ (λ base. increment_value base.at add base)
+unfolding suffix_by
+increment = ap suffix_of (sym suffix.rolls-Increment) ∙ fold-roll-Suffix Meaning ScopedMeaning SuffixMeaning Pair Given Joined expression_by scoped_by suffix_by entry_by field_by operand_by (Suffix-F.Increment)
+
+pub decrement : suffix_of suffix.Decrement ≡ (λ base. increment_value base.at subtract base)
+unfolding suffix_by
+decrement = ap suffix_of (sym suffix.rolls-Decrement) ∙ fold-roll-Suffix Meaning ScopedMeaning SuffixMeaning Pair Given Joined expression_by scoped_by suffix_by entry_by field_by operand_by (Suffix-F.Decrement)
+
+-- what stands behind `::`
+pub property : (name : ℕ) → member_of (member.Property name) ≡ (λ at class. property_value at (static_property at class name) [])
+unfolding scoped_by
+property name = ap member_of (sym (member.rolls-Property name)) ∙ fold-roll-ScopedMember Meaning ScopedMeaning SuffixMeaning Pair Given Joined expression_by scoped_by suffix_by entry_by field_by operand_by (ScopedMember-F.Property name)
+
+pub word_none : (name : ℕ) → member_of (member.Word name None) ≡ (λ at class. word_value at class name None)
+unfolding scoped_by
+word_none name = ap member_of (sym (member.rolls-Word name None)) ∙ fold-roll-ScopedMember Meaning ScopedMeaning SuffixMeaning Pair Given Joined expression_by scoped_by suffix_by entry_by field_by operand_by (ScopedMember-F.Word name None)
+
+pub word_some : (name : ℕ) (arguments : List Expr) → member_of (member.Word name (Some arguments)) ≡ (λ at class. word_value at class name (Some (map meaning_of arguments)))
+unfolding scoped_by
+word_some name arguments = ap member_of (sym (member.rolls-Word name (Some arguments))) ∙ fold-roll-ScopedMember Meaning ScopedMeaning SuffixMeaning Pair Given Joined expression_by scoped_by suffix_by entry_by field_by operand_by (ScopedMember-F.Word name (Some arguments))

@@ -36,3 +36,4 @@ suffix_of = fold-Suffix Meaning ScopedMeaning SuffixMeaning Pair Given Joined ex
 pub record IsForm (form : Form) (meaning : Meaning) : Type 0 where
   pub subject : form.subject ≡ meaning.subject
   pub is_null : form.is_null ≡ meaning.is_null
+  pub key : form.key ≡ meaning.key

@@ -4,3 +4,4 @@ pub mod Forms
 pub mod PartLaws
 pub mod PartNames
 pub mod Parts
+pub mod UseNames

@@ -1,5 +1,5 @@
 -- What a check that was handed down says of an item of a list.
-use Rattle.std.proofs.Common.{◌≡◌, ◌<◌, ℕ, Result, List, length, get_or, All, refl, sym, subst}
+use Rattle.std.proofs.Common.{◌≡◌, ◌<◌, ℕ, Result, List, length, get_or, All, sym, subst}
 use Rattle.std.specs.declared.alloc.Global.{Global}
 use denote.Ref.{Bor, MutBor}
 use Rattle.hack_decls.specs.DeclState.{DeclState}

@@ -79,7 +79,7 @@ module _ (scope : Scope) (symbols : Symbols) where
   in_bracketed at inner all = subst (λ (s : List SymbolId). All In s) (bracketed_symbols scope at inner) all
 
   -- lists of parts
-  each : (es : List Expr) → All In (of_all (map (symbols_of scope) es)) → All (ExprIn scope symbols) es
+  pub each : (es : List Expr) → All In (of_all (map (symbols_of scope) es)) → All (ExprIn scope symbols) es
   unfolding ExprIn
   each [] all = λ k d lt. absurd (omega (arith, lt))
   each (x ∷ xs) all = All-cons (ExprIn scope symbols) x xs (front In (symbols_of scope x) (of_all (map (symbols_of scope) xs)) all) (each xs (back In (symbols_of scope x) (of_all (map (symbols_of scope) xs)) all))

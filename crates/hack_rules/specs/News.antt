@@ -76,7 +76,8 @@ construct_by at name arguments this given (Some member) = do
   called_by at (Some arguments) (λ solved. Some this) given member.kind
   pure (limited this)
 
--- the arguments go to the constructor of the class of this name with these type arguments; the whole has the type `this`
+-- the arguments go to the constructor of the class of this name with these type arguments; the whole has the type `this`, or `_` where
+-- this has more than 256 nodes
 unfoldable pub constructed : Place → ℕ → List HackType → HackType → List Argument → Walk HackType
 constructed at name arguments this given = do
   member ← reads (λ m scope. constructor_of m name)

@@ -32,7 +32,7 @@ read left (element_aim at base ty index) = element at left ty index
 read left (other at ty) = pure ty
 
 -- a target gets a type: a variable has it from here on, a property expects it, an element makes a new value for its base, and anything
--- else is 4016; the place is that of what is assigned
+-- else is 4016 at the target; the place that is handed on is that of what is assigned, where a value that doesn't fit is reported
 unfoldable pub store : Place → Aim → HackType → Walk (Unit {0})
 store value_at (variable at name) new = give name new
 store value_at (property ty) new = expect value_at ty new

@@ -195,7 +195,7 @@ constant_value at name = plain at (constant_row at name) []
 
 -- ---- tests and casts
 
--- a variable is refined behind the first `as` of a chain; behind the others, and behind `is` and `?as`, nothing is
+-- a variable is refined behind an `as` that is the first test of a chain; behind later tests, and behind `is` and `?as`, nothing is
 abbrev pub test_by : Option ℕ → TestOperator → HackType → Walk HackType
 test_by subject test.Is tested = pure type.Bool
 test_by subject test.NullAs tested = pure (limited (option_of tested))

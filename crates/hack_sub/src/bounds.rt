@@ -1,18 +1,17 @@
 // The rule on type parameters and `this`.
-ghost use Rattle.std.specs.Prelude.{◌≡◌, ◌<◌, IfOk, length, option_copied, slice_get};
+ghost use Rattle.std.specs.Prelude.{◌≡◌, IfOk};
 ghost use Rattle.hack_sub.specs.Named.{PairIn};
 ghost use Rattle.hack_sub.specs.inside.Calls.{OneIn, Relates, Tells};
 ghost use Rattle.hack_sub.specs.IsBelow.{class_type_small, from_param, from_this, into_param, is_below, some_and};
-ghost use Rattle.hack_sub.specs.Scopes.{class_params_by, own_params, param_of};
 
 use crate::Scope;
 use crate::level::{Level, holds};
 use crate::options::{any_below, below_any};
 use crate::parts::top_of;
 use crate::plain::is_this;
+use crate::scope::{class_type, param_of};
 use hack_decls::{DeclStop, Decls};
-use hack_types::{HackType, NoMemory, TypeParam};
-use sqlite_items::Items;
+use hack_types::{HackType, NoMemory};
 use std::alloc::Global;
 
 /// The lower type is a type parameter, and one of its bounds behind `as` is below the upper type.
@@ -93,7 +92,7 @@ where
         (λ U. is_below map level.now.scope.now level.now.height U upper.now))
         (λ symbols. OneIn symbols level.now.scope.now upper.now) }
 {
-    let class = class_type(level.alloc, level.scope)?;
+    let class = class_type_small(level.alloc, level.scope)?;
     match &class {
         Some(class) => holds(level, decls, class, upper),
         None => Ok(false),
@@ -103,54 +102,12 @@ where
 // How many nodes a type may have.
 const MOST_NODES: usize = 256;
 
-// The parameter that a type is, by its position in the scope's lists.
-fn param_of<'a>(scope: &'a Scope, ty: &HackType) -> Option<&'a TypeParam>
-    ensures { option_copied result ≡ param_of scope.now ty.now }
-{
-    match ty {
-        HackType::ClassParam(position, _) => param_at(class_params(scope), *position),
-        HackType::FunParam(position, _) => param_at(scope.fun_params.as_slice(), *position),
-        _ => None,
-    }
-}
-
-// The parameter at a position.
-fn param_at(params: &[TypeParam], position: u32) -> Option<&TypeParam>
-    ensures { option_copied result ≡ slice_get params.now position }
-{
-    params.get(position as usize)
-}
-
-fn class_params(scope: &Scope) -> &[TypeParam]
-    ensures { result.now ≡ class_params_by scope.now.class }
-{
-    match &scope.class {
-        Some((_, params)) => params.as_slice(),
-        None => &[],
-    }
-}
-
 // The scope's class with its own parameters, where they aren't too many for a type.
-fn class_type(alloc: Global, scope: &Scope) -> Result<Option<HackType>, NoMemory>
+fn class_type_small(alloc: Global, scope: &Scope) -> Result<Option<HackType>, NoMemory>
     ensures { IfOk result (λ class. class ≡ class_type_small scope.now) }
 {
     match &scope.class {
-        Some((name, params)) if params.len() < MOST_NODES => Ok(Some(HackType::Class(
-            *name,
-            own_params(alloc, params)?,
-        ))),
+        Some((_, params)) if params.len() < MOST_NODES => class_type(alloc, scope),
         _ => Ok(None),
     }
-}
-
-// These parameters as types.
-fn own_params(alloc: Global, params: &Items<TypeParam>) -> Result<Items<HackType>, NoMemory>
-    requires { length params.now < 256 }
-    ensures { IfOk result (λ own. own ≡ own_params 0 params.now) }
-{
-    let mut own = Vec::with_capacity(alloc, params.len())?;
-    for index in 0..params.len() {
-        own.push(HackType::ClassParam(index as u32, params.as_slice()[index].name))?;
-    }
-    Ok(Items::from_vec(own))
 }

@@ -23,5 +23,5 @@ pub use parts::{
     arguments_of, as_keyed, dict_parts, is_open, keyset_item, name_of, option_inside, shape_fields,
     union_members, vector_item,
 };
-pub use scope::Scope;
+pub use scope::{Scope, class_type, param_of};
 pub use sub::is_sub;

@@ -18,8 +18,8 @@ use hack_walk::{Branches, Setting, State, behind_as, tested_branches};
 use hack_written::written;
 use std::alloc::Global;
 
-/// Tests behind an operand: `is` gives bool, `as` the type, and `?as` its option; behind the first `as` of a variable the variable is
-/// refined (docs/language.md, Typing expressions). `EdgesFull` says that a lookup's note was refused, and `NoMemory` that memory ran out;
+/// Tests behind an operand: `is` gives bool, `as` the type, and `?as` its option; a variable is refined behind an `as` that is the first
+/// test (docs/language.md, Typing expressions). `EdgesFull` says that a lookup's note was refused, and `NoMemory` that memory ran out;
 /// what was noted before stays noted.
 pub fn tested<
     D: Decls,

@@ -32,7 +32,7 @@ pub record BodyIn (symbols : Symbols) (scope : Scope) (variables : Variables) : 
   pub types : VariablesIn symbols variables
 
 -- a check that looks declarations up: over every map that agrees on what was noted, the answer and the state behind are those of the walk;
--- what is noted is named by the scope, by the variables and by what the call was given (`Names`), and `Gives` says what the answer names
+-- what is noted is named by the scope, by the variables or by what the call was given (`Names`), and `Gives` says what the answer names
 pub record Walks {Base Held A : Type 0} (walk : Walk A) (setting : Setting) (old : DeclState Base Held) (before : State)
     (result : Result A DeclStop) (new : DeclState Base Held) (behind : State) (Names : Symbols → Type 0) (Gives : Symbols → A → Type 0) : Type 0 where
   pub asks : Asks old result new (λ map answer. walk setting map before ≡ (answer, behind))

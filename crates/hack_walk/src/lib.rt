@@ -8,6 +8,7 @@ mod join;
 mod refining;
 mod setting;
 mod state;
+mod unions;
 mod variables;
 mod widen;
 
@@ -17,5 +18,6 @@ pub use join::{either, joined_with};
 pub use refining::{where_is, where_is_not};
 pub use setting::Setting;
 pub use state::State;
+pub use unions::{coalesced, union_of_two};
 pub use variables::{Variables, joined};
 pub use widen::{mixed_in, taking, widened};

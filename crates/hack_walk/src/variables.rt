@@ -1,10 +1,11 @@
 // Environments: the variables at a point of a body, with their types.
 ghost use Rattle.std.specs.Prelude.{◌≡◌, [], IfOk, OnOk, map, option_copied};
 ghost use Rattle.hack_types.specs.Rising.{NamesRise};
-ghost use Rattle.hack_rules.specs.Variables.{joined, joined_entry, type_in, union_of_two, with_variable};
+ghost use Rattle.hack_rules.specs.Variables.{joined, joined_entry, type_in, with_variable};
 ghost use Rattle.hack_walk.specs.inside.Calls.{with_joined};
 
-use hack_types::{HackType, NameId, NoMemory, limited, union_of};
+use crate::unions::union_of_two;
+use hack_types::{HackType, NameId, NoMemory, limited};
 use std::alloc::Global;
 use std::collections::BTreeMap;
 use std::marker::Model;
@@ -128,15 +129,4 @@ fn put_joined(
         }
         None => Ok(()),
     }
-}
-
-// The union of two types, and `_` where it has more than 256 nodes.
-#[tactic(auto, unfolding(hack_rules::specs::Variables::union_of_two))]
-fn union_of_two(alloc: Global, left: HackType, right: HackType) -> Result<HackType, NoMemory>
-    ensures { IfOk result (λ union. union ≡ union_of_two left right) }
-{
-    let both = [left, right];
-    let union = union_of(alloc, &both);
-    drop(both);
-    Ok(limited(union?))
 }

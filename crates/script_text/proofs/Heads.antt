@@ -2,7 +2,6 @@
 use Rattle.std.proofs.Common.{◌≡◌, ◌⊎◌, inl, inr, ℕ, ◌+◌, Bool, true, false, List, [], ◌++◌, Some, None, Result, Ok, Err, refl, sym, ap, ◌∙◌, subst, append_assoc}
 use Rattle.std.specs.Prelude.{Option, IfOk, IfErr, OnOk, OnErr, IsSome}
 use Rattle.script_text.specs.Heads as heads
-use Rattle.script_text.specs.Heads.{split_first}
 use Rattle.script_text.specs.Script.{Found, Broken, Open, found, next_head}
 use Rattle.script_text.specs.Lines.{head_found}
 use Rattle.script_text.specs.Reader.{Reader, Takes, Stops, ReadsHead, head_of}

@@ -3,7 +3,7 @@ ghost use Rattle.std.specs.Prelude.{◌≡◌, ◌+◌, ◌++◌, ℕ, Bool, tru
 ghost use Rattle.script_text.specs.Heads.{Head, File as FileHead, head_of_line};
 ghost use Rattle.script_text.specs.Whole.{StandWhole};
 ghost use Rattle.script_text.specs.Spelling.{IsWithinLimits, spelling, IsWithin, command_spelling, lines_of};
-ghost use Rattle.script_text.specs.Script.{NextHead, Found, Broken, next_head, NextBody, Body, Bad, More, next_body, newlines, Command, File, End, AtBad, Next, One, No, Later, next_command, IsScript};
+ghost use Rattle.script_text.specs.Script.{Found, Broken, next_head, Body, Bad, More, next_body, newlines, Command, File, End, AtBad, One, No, Later, next_command, IsScript};
 
 /// A line is read as a head exactly where it is the head's spelling (docs/script.md, Form).
 pub fn heads_are_spelled()

@@ -1,5 +1,5 @@
 // Reads the line that begins a command.
-ghost use Rattle.std.specs.Prelude.{◌≡◌, ◌≤◌, ◌<◌, ◌==◌, ℕ, List, length, position, IfOk, IfSome, IfNone};
+ghost use Rattle.std.specs.Prelude.{◌≡◌, ◌≤◌, ◌<◌, ◌==◌, length, position, IfOk, IfSome};
 ghost use Rattle.std.specs.List.{list_all};
 ghost use Rattle.std.specs.Option.{option_map, option_copied};
 ghost use Rattle.script_text.specs.Heads.{split_first, behind, is_digit, is_plain, number, is_name_byte, is_file_name, file_head, drop_head, word_head, head_of_line, may_be_last};

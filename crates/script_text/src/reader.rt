@@ -1,8 +1,7 @@
 // A reader of a script, from a source that gives its bytes in any pieces.
-ghost use Rattle.std.specs.Prelude.{◌≡◌, ◌≤◌, ◌<◌, ◌+◌, ◌-◌, ◌⊎◌, ◌++◌, [], ◌∷◌, ℕ, List, true, false, min, length, take, drop, IfOk, IfErr, IfSome, OnOk, OnErr, IsSome};
-ghost use Rattle.std.specs.Io.KnownBytes.{Consumes, Keeps, IsAtEnd};
+ghost use Rattle.std.specs.Prelude.{◌≡◌, ◌≤◌, ◌<◌, ◌+◌, ◌-◌, ◌⊎◌, ◌++◌, [], ℕ, true, false, min, length, take, drop, IfOk, IfErr, IfSome, OnOk, OnErr, IsSome};
+ghost use Rattle.std.specs.Io.KnownBytes.{Keeps, IsAtEnd};
 ghost use Rattle.memchr.specs.Find.{IsFirst, Nowhere, Passes, is_byte};
-ghost use Rattle.hack_io.specs.Causes.{Rose};
 ghost use Rattle.script_text.specs.Script.{Broken, Open, next_head, Bad, More, next_body, newlines, Body, behind_body};
 ghost use Rattle.script_text.specs.Ends.{IsNoEnd};
 ghost use Rattle.script_text.specs.Reader.{Takes, Stops, ReadsHead, ReadsBody, ReadsBehind, IsBrokenBehind, WaitsBehind, head_of, stand_after};
@@ -46,8 +45,8 @@ impl Model for ScriptReader {
 }
 
 impl ScriptReader {
-    ghost use Rattle.std.specs.Prelude.{◌≡◌, ◌≤◌, ◌<◌, ◌+◌, ◌-◌, ◌⊎◌, ◌^◌, ◌++◌, [], ◌∷◌, ℕ, List, true, false, length, take, drop, min, Ok, IfOk, IfErr, IfSome, OnOk, OnErr, IsSome, None};
-    ghost use Rattle.std.specs.Io.KnownBytes.{Consumes, Keeps, IsAtEnd};
+    ghost use Rattle.std.specs.Prelude.{◌≡◌, ◌≤◌, ◌<◌, ◌+◌, ◌-◌, ◌⊎◌, ◌++◌, [], ℕ, true, false, length, take, drop, min, Ok, IfOk, IfErr, IfSome, OnOk, OnErr, IsSome, None};
+    ghost use Rattle.std.specs.Io.KnownBytes.{Keeps, IsAtEnd};
     ghost use Rattle.script_text.specs.Script.{Broken, Open, next_head, Bad, More, next_body, newlines, Body, behind_body};
     ghost use Rattle.script_text.specs.Lines.{head_found};
     ghost use Rattle.script_text.specs.Reader.{Takes, Stops, ReadsHead, ReadsBody, ReadsBehind, IsBrokenBehind, WaitsBehind, head_of, stand_after};

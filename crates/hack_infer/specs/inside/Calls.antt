@@ -50,11 +50,6 @@ abbrev pub next_of : Sight → Option HackType
 next_of (sight.Alias next) = Some next
 next_of _ = None
 
--- what an alias stands for names only these symbols
-abbrev pub SightIn : Symbols → Sight → Type 0
-SightIn symbols (sight.Alias next) = TypeIn symbols next
-SightIn symbols _ = Unit {0}
-
 -- the arguments of an ancestor
 abbrev pub given_in : List HackType → AncestorAnswer → Option (List HackType)
 given_in arguments (ancestor.At types) = Some (map (put_in arguments) types)

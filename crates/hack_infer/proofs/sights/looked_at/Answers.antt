@@ -5,7 +5,8 @@ use Rattle.hack_decls.specs.NameLaws.{in_heading_answer, types_of_heading_answer
 use Rattle.hack_decls.specs.Names.{TypeIn, class_symbol}
 use Rattle.hack_decls.specs.declared.answers.HeadingAnswer.{HeadingAnswer}
 use Rattle.hack_infer.proofs.SightLaws.{sight_law, sight_named}
-use Rattle.hack_infer.specs.inside.Calls.{SightIn, looked_at, sight_in}
+use Rattle.hack_infer.specs.inside.Calls.{looked_at, sight_in}
+use Rattle.hack_infer.specs.Named.{SightIn}
 use Rattle.hack_infer.specs.declared.sight.Sight.{Sight}
 use Rattle.hack_infer.proofs.sights.looked_at.Goals as goal
 

@@ -2,7 +2,7 @@ use Rattle.std.proofs.Common.{◌≡◌, ◌∙◌, sym, ap, subst}
 use Rattle.hack_decls.specs.DeclState.{Map}
 use Rattle.hack_infer.proofs.Takes.{asks_none, asks_then}
 use Rattle.hack_infer.specs.Matching.{match_in, given_seen}
-use Rattle.hack_infer.specs.inside.Calls.{SightIn}
+use Rattle.hack_infer.specs.Named.{SightIn}
 use Rattle.hack_infer.specs.declared.sight.Sight.{Sight}
 use Rattle.hack_infer.specs.declared.sight.Sight.TheVariants as sight
 use Rattle.hack_infer.proofs.steps.by_given_seen.Goals as goal

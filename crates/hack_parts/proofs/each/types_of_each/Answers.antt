@@ -1,9 +1,6 @@
-use Rattle.std.proofs.Common.{◌≡◌, ◌<◌, ℕ, List, length, refl, sym, subst}
-use Rattle.std.proofs.lemmas.List.{take_all}
-use Rattle.std.proofs.lemmas.Result.{err_from_is_err_and}
+use Rattle.std.proofs.Common.{◌<◌, length, refl, sym, subst}
 use Rattle.hack_decls.specs.Names.{TypeIn}
-use Rattle.hack_rules.specs.Walks.{each}
-use Rattle.hack_walk.specs.WalkLaws.{each_next, each_none, then_refused, walks_as}
+use Rattle.hack_walk.specs.WalkLaws.{each_next, each_none}
 use Rattle.hack_parts.specs.ExprIn.{ExprIn}
 use Rattle.hack_parts.specs.PartLaws.{value_at, value_walks}
 use Rattle.hack_parts.specs.Parts.{value_of}

@@ -1,4 +1,4 @@
-use Rattle.std.proofs.Common.{◌≡◌, ◌∙◌, sym, ap}
+use Rattle.std.proofs.Common.{◌∙◌, sym, ap}
 use Rattle.hack_tree.specs.declared.expression.Expr.{Expr}
 use Rattle.hack_rules.specs.Expressions.{meaning_of}
 use Rattle.hack_rules.specs.Meanings.{Meaning}

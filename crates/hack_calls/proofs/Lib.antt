@@ -1,0 +1,12 @@
+mod Calling
+mod Filled
+mod Heading
+mod Least
+mod Loops
+mod Mentioning
+mod Naming
+mod Pairs
+mod Reporting
+mod Solving
+mod Stages
+mod Stepping

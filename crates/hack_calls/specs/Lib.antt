@@ -1,0 +1,4 @@
+pub mod CallLaws
+pub mod Named
+pub mod Solved
+pub mod inside

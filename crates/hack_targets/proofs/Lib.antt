@@ -1,0 +1,9 @@
+pub mod Found
+pub mod Heads
+pub mod Inwards
+pub mod Keyed
+pub mod Last
+pub mod Naming
+pub mod Optional
+pub mod ShapeMade
+pub mod Stepping

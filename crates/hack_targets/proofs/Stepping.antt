@@ -1,0 +1,25 @@
+-- Steps and checks of a walk, otherwise said.
+use Rattle.std.proofs.Common.{◌≡◌, Result, Ok, Err, subst, sym}
+use Rattle.hack_types.specs.declared.no_memory.NoMemory.{NoMemory}
+use Rattle.hack_decls.specs.DeclState.{DeclState, Symbols}
+use Rattle.hack_decls.specs.declared.stop.DeclStop.{DeclStop}
+use Rattle.hack_rules.specs.Walks.{Setting, State, Walk}
+use Rattle.hack_walk.specs.Checks.{Steps, Walks}
+
+-- steps that are given more
+pub steps_more : {A : Type 0} {setting : Setting} {Names NamesB : Symbols → Type 0} {Gives : Symbols → A → Type 0} {walk : Walk A} {before behind : State} (result : Result A NoMemory)
+    → Steps walk setting before result behind Names Gives → ((symbols : Symbols) → NamesB symbols → Names symbols) → Steps walk setting before result behind NamesB Gives
+steps_more (Ok a) steps more = record { is = steps.is; named = λ symbols body n. steps.named symbols body (more symbols n) }
+steps_more (Err e) steps more = record { is = tt; named = λ symbols body n. tt }
+
+-- steps of a walk are those of the same walk, otherwise written
+pub steps_same : {A : Type 0} {setting : Setting} {Names : Symbols → Type 0} {Gives : Symbols → A → Type 0} {walk : Walk A} {before behind : State}
+    (other : Walk A) (result : Result A NoMemory) → other ≡ walk → Steps walk setting before result behind Names Gives → Steps other setting before result behind Names Gives
+steps_same {setting = setting} {Names = Names} {Gives = Gives} {before = before} {behind = behind} other result is steps =
+    subst (λ w. Steps w setting before result behind Names Gives) (sym is) steps
+
+-- a check of a walk is one of the same walk, otherwise written
+pub walks_same : {Base Held A : Type 0} {setting : Setting} {Names : Symbols → Type 0} {Gives : Symbols → A → Type 0} {walk : Walk A} {old new : DeclState Base Held} {before behind : State}
+    (other : Walk A) (result : Result A DeclStop) → other ≡ walk → Walks walk setting old before result new behind Names Gives → Walks other setting old before result new behind Names Gives
+walks_same {setting = setting} {Names = Names} {Gives = Gives} {old = old} {new = new} {before = before} {behind = behind} other result is walks =
+    subst (λ w. Walks w setting old before result new behind Names Gives) (sym is) walks

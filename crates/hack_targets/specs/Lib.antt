@@ -1,0 +1,2 @@
+pub mod AimIn
+pub mod inside

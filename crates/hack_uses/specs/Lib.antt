@@ -1,0 +1,3 @@
+pub mod Aims
+pub mod SubParts
+pub mod inside
