@@ -1,0 +1,3 @@
+pub mod StmtMeanings
+pub mod StmtParts
+pub mod inside

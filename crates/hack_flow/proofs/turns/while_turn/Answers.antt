@@ -1,0 +1,29 @@
+use Rattle.hack_decls.specs.DeclState.{Symbols}
+use Rattle.hack_parts.specs.ExprIn.{ExprIn}
+use Rattle.hack_rules.specs.Expressions.{meaning_of}
+use Rattle.hack_rules.specs.Meanings.{Branches}
+use Rattle.hack_rules.specs.Statements.{doing_of}
+use Rattle.hack_rules.specs.Walks.{◌>>◌, replace}
+use Rattle.std.proofs.Common.{◌∙◌, sym, ap, subst}
+use Rattle.hack_rules.specs.Variables.{Variables}
+use Rattle.hack_walk.specs.Checks.{BranchesIn, VariablesIn, setting_of}
+use Rattle.hack_walk.specs.WalkLaws.{of_step, step_replace, walks_as, walks_next, walks_then}
+use Rattle.hack_flow.specs.Settled.{emptied, inside_of}
+use Rattle.hack_flow.specs.StmtIn.{StmtIn}
+use Rattle.hack_flow.specs.inside.Rows.{body_turn}
+use Rattle.hack_flow.proofs.Ending.{while_pieces}
+use Rattle.hack_flow.proofs.turns.while_turn.Goals as goal
+
+pub returns : goal.returns
+returns g c =
+    let condition = meaning_of c.args.condition.now in let body = doing_of c.args.body.now in let inside = inside_of c.args.inside in let branches = c.in_ok-branches.branches in
+    let scope = c.args.setting.now.scope.now in
+    let all : Symbols → Type 0 = λ symbols. ExprIn scope symbols c.args.condition.now × StmtIn scope symbols c.args.body.now in
+    walks_as _ c.body_turn.result
+    (walks_then {NamesB = λ symbols. all symbols × BranchesIn symbols branches} {NamesC = all} (λ (branches : Branches). replace branches.when_true >> emptied (body_turn body inside branches.when_false)) c.body_turn.result c.in_ok-branches.ensures
+    (walks_next {NamesC = λ symbols. all symbols × BranchesIn symbols branches} (emptied (body_turn body inside branches.when_false)) c.body_turn.result
+    (of_step _ (step_replace {Names = λ symbols. BranchesIn symbols branches} c.branches_of.new.state c.replace.new.self branches.when_true (c.replace.ensures.variables ∙ c.into_parts-when_true.ensures.when_true) c.replace.ensures.found (λ symbols n. n.when_true)))
+    (walks_as _ c.body_turn.result c.body_turn.ensures (λ map. ap (λ (vs : Variables). emptied (body_turn body inside vs) (setting_of c.args.setting.now) map c.replace.new.self) (sym c.into_parts-when_true.ensures.when_false)))
+    (λ symbols n. n.1) (λ symbols n t. (subst (VariablesIn symbols) (sym c.into_parts-when_true.ensures.when_false) n.1.when_false, n.0.1)) (λ symbols b n t h. h))
+    (λ symbols n. n.0) (λ symbols n t. (n, t)) (λ symbols b n t h. h))
+    (λ map. while_pieces condition body inside (setting_of c.args.setting.now) map c.args.state.now)
