@@ -1,3 +1,5 @@
 pub mod Ending
 pub mod Following
+pub mod ForTurns
+pub mod Foreaching
 pub mod Passing

@@ -1,5 +1,5 @@
 // Statements in a row.
-ghost use Rattle.std.specs.Prelude.{All, Ok, map};
+ghost use Rattle.std.specs.Prelude.{◌≡◌, All, Ok, map};
 ghost use Rattle.hack_flow.specs.Doings.{Doings};
 ghost use Rattle.hack_flow.specs.Settled.{ExitsIn, inside_of, settled};
 ghost use Rattle.hack_flow.specs.StmtIn.{StmtIn};

@@ -11,11 +11,13 @@ ghost use Rattle.hack_rules.specs.Statements.{doing_of};
 ghost use Rattle.hack_walk.specs.Checks.{VariablesIn, Walks, setting_of};
 
 use crate::exits::normal_end;
+use crate::for_turns::for_turn;
+use crate::foreach_turns::foreach_turn;
 use crate::{Exits, Inside};
 use hack_decls::{DeclStop, Decls};
 use hack_expr::branches_of;
 use hack_tree::{Expr, Stmt};
-use hack_types::NoMemory;
+use hack_types::{HackType, NameId, NoMemory};
 use hack_walk::{Branches, Setting, State, Variables, either};
 use std::alloc::Global;
 use std::marker::Model;
@@ -32,6 +34,24 @@ pub(crate) enum Loop<'a> {
     Do {
         /// What is tested behind each turn.
         condition: &'a Expr,
+    },
+    /// `for`, behind its start.
+    For {
+        /// What is tested before each turn, where something is.
+        condition: &'a Option<Expr>,
+        /// What is done behind each turn.
+        steps: &'a [Expr],
+    },
+    /// `foreach`, behind its subject.
+    Foreach {
+        /// The type of the keys.
+        key_type: &'a HackType,
+        /// The type of the values.
+        value_type: &'a HackType,
+        /// The variable of the keys, where one stands.
+        key: Option<NameId>,
+        /// The variable of the values.
+        value: NameId,
     },
 }
 
@@ -105,6 +125,18 @@ pub(crate) fn one_turn<
                 statement, alloc, setting, decls, state, inside, body, condition,
             )
         }
+        Loop::For { condition, steps } => for_turn(
+            statement, alloc, setting, decls, state, inside, condition, steps, body,
+        ),
+        Loop::Foreach {
+            key_type,
+            value_type,
+            key,
+            value,
+        } => foreach_turn(
+            statement, alloc, setting, decls, state, inside, key_type, value_type, *key, *value,
+            body,
+        ),
     }
 }
 
@@ -138,7 +170,7 @@ fn while_turn<
 }
 
 // The body, and then the turn is over.
-fn body_turn<
+pub(crate) fn body_turn<
     D: Decls,
     S: Fn(Global, &Setting<'_>, &mut D, &mut State, Inside, &Stmt) -> Result<Exits, DeclStop>,
 >(
@@ -286,7 +318,7 @@ fn tested_turn(
 }
 
 // Inside one loop more; more than a u32 counts are answered as want of memory.
-fn deeper(inside: Inside) -> Result<Inside, NoMemory>
+pub(crate) fn deeper(inside: Inside) -> Result<Inside, NoMemory>
     ensures { IfOk result (λ inner. inside_of inner ≡ deeper (inside_of inside)) }
 {
     match inside.loops.checked_add(1) {
